@@ -11,7 +11,7 @@ use Rattle.clap.specs.declared.error.kind.ErrorKind.TheVariants.{OutOfMemory, Va
 use Rattle.command_line.specs.rule.Kinds.{IsKindOf, IsOfKind}
 use Rattle.command_line.specs.rule.JudgeTasks.{JudgeTask, rule_text}
 use Rattle.command_line.specs.rule.Program.{program_app, flag_text, judge_values_in, IsMet, IsNumber, MayBeNumber}
-use Rattle.command_line.specs.rule.Tasks.{Task, run, threads, audit, history, explain, open_calls, state, check, picture, stats, from_strace, recorded_history, explore, schedule, judge, format_text, is_json, is_quiet, greatest_seed, most_files, most_nodes}
+use Rattle.command_line.specs.rule.Tasks.{Task, run, threads, audit, history, explain, open_calls, state, check, picture, stats, from_strace, recorded_history, explore, explore_all, schedule, judge, format_text, is_json, is_quiet, greatest_seed, most_files, most_nodes}
 use Rattle.command_line.specs.rule.Words.{AsksFor, IsRefusal, IsShown}
 use Rattle.command_line.specs.declared.format.Format.{Format}
 use Rattle.command_line.specs.declared.format.Format.TheVariants.{Svg, Mermaid, Trace}
@@ -108,6 +108,7 @@ name_of (stats j s) = codes "stats"
 name_of (from_strace r n w) = codes "from-strace"
 name_of (recorded_history rs) = codes "from-strace"
 name_of (explore s k n f o) = codes "explore"
+name_of (explore_all s l r m) = codes "explore"
 name_of (schedule s n f) = codes "schedule"
 name_of (judge t) = codes "judge"
 
@@ -124,7 +125,8 @@ name_is p (picture j c a b f) met = ap name_in met.2
 name_is p (stats j s) met = ap name_in met
 name_is p (from_strace r n w) met = ap name_in (ap beside_several met.1)
 name_is p (recorded_history rs) met = ap name_in (ap beside_several met.3)
-name_is p (explore s k n f o) met = ap name_in met.2
+name_is p (explore s k n f o) met = ap name_in met.1
+name_is p (explore_all s l r m) met = ap name_in met.1
 name_is p (schedule s n f) met = ap name_in met.1
 name_is p (judge t) met = ap name_in (ap beside_histories met.1)
 
@@ -209,8 +211,15 @@ run_of rows = run (path_in (codes "SCRIPT") rows) (first_of (codes "JOURNAL") ro
 abbrev check_of : List Row → Task
 check_of rows = check (paths_in (codes "SCRIPT") rows) (first_of (codes "FILE") rows) (flag_in (codes "json") rows)
 
+-- schedules of seeds, or every schedule
+abbrev pub seeds_of : List Row → Task
+seeds_of rows = explore (path_in (codes "SCRIPT") rows) (number_in (codes "COUNT") rows) (number_in (codes "N") rows) (flag_in (codes "failures") rows) (flag_in (codes "json") rows)
+
+abbrev pub every_of : List Row → Task
+every_of rows = explore_all (path_in (codes "SCRIPT") rows) (number_in (codes "LOSSES") rows) (number_in (codes "REPEATS") rows) (number_in (codes "STATES") rows)
+
 abbrev explore_of : List Row → Task
-explore_of rows = explore (path_in (codes "SCRIPT") rows) (number_in (codes "COUNT") rows) (number_in (codes "N") rows) (flag_in (codes "failures") rows) (flag_in (codes "json") rows)
+explore_of rows = cond (flag_in (codes "all") rows) (every_of rows) (seeds_of rows)
 
 -- what recordings are to be turned into
 abbrev pub script_of : List Row → Task
@@ -377,12 +386,20 @@ met_is p (recorded_history rs) met =
     let flag = flag_there 2 _ _ true (ap beside_several met.3) refl in
     named p (recorded_history rs) met ∙ (λ i. cond (flag i) (recorded_history (recordings i)) (script_of p.1))
 met_is p (explore s k n f o) met =
-    let script = ap (text_at 0) met.2 in
-    let count = number_there 1 _ _ 1 greatest_seed met.0 k met.2 refl met.3 in
-    let number = number_there 2 _ _ 0 greatest_seed met.1 n met.2 refl met.4 in
-    let flag = flag_there 3 _ _ f met.2 refl in
-    let json = flag_there 4 _ _ o met.2 refl in
-    named p (explore s k n f o) met ∙ (λ i. explore (script i) (count i) (number i) (flag i) (json i))
+    let script = ap (text_at 0) met.1 in
+    let count = number_there 1 _ _ 1 greatest_seed met.0.seeds k met.1 refl met.2.of_seeds in
+    let number = number_there 2 _ _ 0 greatest_seed met.0.first n met.1 refl met.2.of_first in
+    let flag = flag_there 3 _ _ f met.1 refl in
+    let json = flag_there 4 _ _ o met.1 refl in
+    let every = flag_there 5 _ _ false met.1 refl in
+    named p (explore s k n f o) met ∙ (λ i. cond (every i) (every_of p.1) (explore (script i) (count i) (number i) (flag i) (json i)))
+met_is p (explore_all s l r m) met =
+    let script = ap (text_at 0) met.1 in
+    let every = flag_there 5 _ _ true met.1 refl in
+    let losses = number_there 6 _ _ 0 greatest_seed met.0.losses l met.1 refl met.2.of_losses in
+    let repeats = number_there 7 _ _ 0 greatest_seed met.0.repeats r met.1 refl met.2.of_repeats in
+    let states = number_there 8 _ _ 1 greatest_seed met.0.states m met.1 refl met.2.of_states in
+    named p (explore_all s l r m) met ∙ (λ i. cond (every i) (explore_all (script i) (losses i) (repeats i) (states i)) (seeds_of p.1))
 met_is p (schedule s n f) met =
     let script = ap (text_at 0) met.1 in
     let number = number_there 1 _ _ 0 greatest_seed met.0 n met.1 refl met.2 in
@@ -407,7 +424,8 @@ nothing_met (picture j c a b f) is = unmet _ is.2
 nothing_met (stats j s) is = cc
 nothing_met (from_strace r n w) is = unmet _ is.1
 nothing_met (recorded_history rs) is = unmet _ is.3
-nothing_met (explore s k n f o) is = unmet _ is.2
+nothing_met (explore s k n f o) is = unmet _ is.1
+nothing_met (explore_all s l r m) is = unmet _ is.1
 nothing_met (schedule s n f) is = unmet _ is.1
 nothing_met (judge t) is = unmet _ is.1
 

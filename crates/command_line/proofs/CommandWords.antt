@@ -4,7 +4,7 @@ use Rattle.std.specs.Prelude.{fold, slice_get, ⊤}
 use Rattle.std.specs.Str.{bytes_eq}
 use Rattle.std.proofs.lemmas.Bool.{ne_eqb}
 use Rattle.std.proofs.lemmas.List.{append_assoc, append-nil}
-use Rattle.clap.specs.Lexer.{strip_byte}
+use Rattle.clap.specs.Lexer.{strip_byte, without_minus}
 use Rattle.clap.specs.Faults.{check_fault, defaults_fault, entered_fault, level_fault, settle_fault, turn_fault, walk_fault}
 use Rattle.clap.specs.Kinds.{or_else}
 use Rattle.clap.specs.Simple.{built, built_leaf, entered, names_of}
@@ -59,6 +59,11 @@ module _ (command : App) where
   -- the command and its rows, where its walk ends so
   abbrev pub met_after : Walk → Option (Text × List Row)
   met_after w = Some (command.top.name, finished shape.rules w.held)
+
+  -- nothing is wrong at the end where nothing is with what was read last, with what is left out, and with what has to be there
+  pub ends_fine : (w : Walk) → settle_fault shape.rules shape.args_override_self w.held ≡ [] → defaults_fault (settled shape.rules w.held).rows shape.rules ≡ []
+      → check_fault shape (finished shape.rules w.held) false ≡ [] → fault_after w ≡ []
+  ends_fine w settles defaults checks = ap₂ or_else settles (ap₂ or_else defaults checks)
 
   -- one word is read with no fault, and then all of them
   pub record Reads (before : Walk) (word : Text) (after : Walk) : Type 0 where
@@ -192,6 +197,10 @@ has_flag rows = behind_path rows None idle
 pub record IsPath (path : Text) : Type 0 where
   pub no_minus : strip_byte 45 path ≡ None
   pub no_dashes : bytes_eq path (45 ∷ 45 ∷ []) ≡ false
+
+-- so it is what is read of a number, too
+pub without_minus_is : (text : Text) → IsPath text → without_minus text ≡ text
+without_minus_is text p = rw p.no_minus refl
 
 -- so is each that there may be
 abbrev pub MayBePath : Option Text → Type 0

@@ -1,17 +1,25 @@
 -- What clap makes of the words of `explore`, word by word.
-use Rattle.std.proofs.Common.{refl, codes, true, false, ℕ, Bool, List, [], ◌∷◌, ◌++◌, ◌≡◌, Option, Some}
+use Rattle.std.proofs.Common.{arith, refl, codes, true, false, ℕ, Bool, List, [], ◌∷◌, ◌++◌, ◌≡◌, Option, Some, ◌∙◌}
+use Rattle.clap.specs.Lexer.{without_minus}
 use Rattle.clap.specs.Walk.{Walk}
 use Rattle.clap.specs.Words.{Row, Text}
 use Rattle.clap.proofs.OnLiterals.{clap_on_literals}
-use Rattle.command_line.specs.rule.Program.{explore_app, explore_values_in, flag_text}
-use Rattle.command_line.specs.rule.Tasks.{explore, flag_words, greatest_seed}
+use Rattle.command_line.specs.rule.Program.{explore_app, explore_values, explore_values_in, flag_text, AreSeeds, ExploreTexts, IsNumber}
+use Rattle.command_line.specs.rule.Tasks.{explore, flag_words, greatest_seed, most_states}
 use Rattle.command_line.specs.rule.Words.{AsksFor}
-use Rattle.command_line.proofs.CommandWords.{asks_after, begin, fault_after, has_flag, has_value, is_path, met_after, none_read, number_row, path_row, read_then, waits_for, IsPath, Reads, ReadsAll}
+use Rattle.command_line.proofs.CommandWords.{asks_after, begin, ends_fine, fault_after, has_flag, has_value, is_path, met_after, none_read, number_row, path_row, read_then, waits_for, without_minus_is, IsPath, Reads, ReadsAll}
 use Rattle.command_line.proofs.BuiltCommands.{commands}
-use Rattle.command_line.proofs.Numbers.{IsNumberText}
+use Rattle.command_line.proofs.Numbers.{million_writes, zero_writes, IsNumberText}
 
 abbrev values_after : Walk → Option (Text × List (Option Text))
 values_after w = explore_values_in (met_after explore_app w)
+
+-- the texts where the limits are left out
+abbrev pub seed_texts : Text → Text → ExploreTexts
+seed_texts count number = record { seeds = count; first = number; losses = codes "0"; repeats = codes "0"; states = codes "1000000" }
+
+pub by_seeds : (count number : Text) (seeds first : ℕ) → IsNumber 1 greatest_seed count seeds → IsNumber 0 greatest_seed number first → AreSeeds (seed_texts count number) seeds first
+by_seeds count number seeds first of_seeds of_first = record { of_seeds = of_seeds; of_first = of_first; of_losses = zero_writes 0; of_repeats = zero_writes 0; of_states = million_writes most_states most_states (omega arith) (omega arith) }
 
 module _ (program script count number : Text) (seeds first : ℕ) (p : IsPath script) (k : IsNumberText 1 greatest_seed count seeds) (n : IsNumberText 0 greatest_seed number first) where
   abbrev rows : List Row
@@ -75,13 +83,28 @@ module _ (program script count number : Text) (seeds first : ℕ) (p : IsPath sc
   flags_read true json = read_then _ failures_read (json_words_read true json)
 
   -- nothing is wrong at the end, where all is met
-  last_tells : IsPath count → IsPath number → (failures json : Bool) → (fault_after explore_app (flagged failures json) ≡ [])
-      × (values_after (flagged failures json) ≡ Some (codes "explore", Some script ∷ Some count ∷ Some number ∷ Some (flag_text failures) ∷ Some (flag_text json) ∷ []))
+  last_fine : (failures json : Bool) → fault_after explore_app (flagged failures json) ≡ []
   unfolding clap_on_literals
-  last_tells q r false false = (rw n.fits refl, rw (q.no_minus, r.no_minus) refl)
-  last_tells q r false true = (refl, rw (q.no_minus, r.no_minus) refl)
-  last_tells q r true false = (refl, rw (q.no_minus, r.no_minus) refl)
-  last_tells q r true true = (refl, rw (q.no_minus, r.no_minus) refl)
+  last_fine false false = ends_fine explore_app seeded (rw n.fits refl) refl refl
+  last_fine false true = refl
+  last_fine true false = refl
+  last_fine true true = refl
+
+  abbrev told : Bool → Bool → Text → Text → Option (Text × List (Option Text))
+  told failures json one other = Some (codes "explore", explore_values script (flag_text failures) (flag_text json) (flag_text false) (seed_texts one other))
+
+  last_values : (failures json : Bool) → values_after (flagged failures json) ≡ told failures json (without_minus count) (without_minus number)
+  unfolding clap_on_literals
+  last_values false false = refl
+  last_values false true = refl
+  last_values true false = refl
+  last_values true true = refl
+
+  last_met : (failures json : Bool) → values_after (flagged failures json) ≡ told failures json count number
+  last_met failures json =
+      let counted = without_minus_is count (is_path count k.no_option) in
+      let numbered = without_minus_is number (is_path number n.no_option) in
+      last_values failures json ∙ (λ i. told failures json (counted i) (numbered i))
 
   numbers_read : (words : List Text) (last : Walk) → ReadsAll explore_app seeded words last → ReadsAll explore_app begin (script ∷ codes "--seeds" ∷ count ∷ codes "--first" ∷ number ∷ words) last
   numbers_read words last more = read_then _ script_read (read_then _ seeds_read (read_then _ count_read (read_then _ first_read (read_then _ number_read more))))
@@ -90,5 +113,5 @@ module _ (program script count number : Text) (seeds first : ℕ) (p : IsPath sc
       → AsksFor (program ∷ codes "explore" ∷ script ∷ codes "--seeds" ∷ count ∷ codes "--first" ∷ number ∷ flag_words (codes "--failures") failures ++ flag_words (codes "--json") json) (explore script seeds first failures json)
   explore_asks failures json =
       let last = flagged failures json in
-      let tells = last_tells (is_path count k.no_option) (is_path number n.no_option) failures json in
-      asks_after explore_app commands.explore program _ last (explore script seeds first failures json) (numbers_read _ last (flags_read failures json)) tells.0 (count, number, tells.1, k.writes, n.writes)
+      asks_after explore_app commands.explore program _ last (explore script seeds first failures json) (numbers_read _ last (flags_read failures json)) (last_fine failures json)
+      (seed_texts count number, last_met failures json, by_seeds count number seeds first k.writes n.writes)

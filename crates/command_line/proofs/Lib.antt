@@ -1,6 +1,7 @@
 pub mod PlainWords
 pub mod CommandLine
 pub mod Unmet
+pub mod UnmetSchedules
 pub mod CommandWords
 pub mod BuiltCommands
 pub mod Flags
@@ -9,6 +10,7 @@ pub mod Numbers
 pub mod GivenNumbers
 pub mod Rules
 pub mod CheckWords
+pub mod ExploreAllWords
 pub mod ExploreWords
 pub mod JudgeReads
 pub mod JudgeWords

@@ -13,7 +13,7 @@ use Rattle.clap.specs.Words.{ReadsOne, Text}
 use Rattle.clap.specs.declared.builder.value_parser.ValueParser.TheVariants.{Signed}
 use Rattle.clap.proofs.ValueTestLemmas.{Accepts-accepts}
 use Rattle.command_line.specs.rule.Program.{IsNumber}
-use Rattle.command_line.specs.rule.Tasks.{greatest_seed}
+use Rattle.command_line.specs.rule.Tasks.{greatest_seed, most_states}
 
 -- how a text of 32 bits is read
 abbrev Reads : {E : Type 0} → (List ℕ → Result ℕ E → Type 0) → Type 0
@@ -111,12 +111,28 @@ one_writes least greatest above below = record {
   within = below;
 }
 
-pub hundred_writes : IsNumber 1 greatest_seed (codes "100") 100
-hundred_writes = record {
-  digits = (omega arith, (omega arith, (omega arith, (omega arith, tt))));
+pub zero_writes : (greatest : ℕ) → IsNumber 0 greatest (codes "0") 0
+zero_writes greatest = record {
+  digits = (omega arith, (omega arith, tt));
   value = refl;
   from_least = omega arith;
   within = omega arith;
+}
+
+pub hundred_writes : (least greatest : ℕ) → least ≤ 100 → 100 ≤ greatest → IsNumber least greatest (codes "100") 100
+hundred_writes least greatest above below = record {
+  digits = (omega arith, (omega arith, (omega arith, (omega arith, tt))));
+  value = refl;
+  from_least = above;
+  within = below;
+}
+
+pub million_writes : (least greatest : ℕ) → least ≤ most_states → most_states ≤ greatest → IsNumber least greatest (codes "1000000") most_states
+million_writes least greatest above below = record {
+  digits = (omega arith, (omega arith, (omega arith, (omega arith, (omega arith, (omega arith, (omega arith, (omega arith, tt))))))));
+  value = refl;
+  from_least = above;
+  within = below;
 }
 
 pub steps_write : IsNumber 1 greatest_seed (codes "10000000") 10000000

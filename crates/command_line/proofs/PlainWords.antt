@@ -8,15 +8,16 @@ use Rattle.clap.specs.Words.{Text, is_simple, is_simple_and_free}
 use Rattle.clap.proofs.OnLiterals.{clap_on_literals}
 use Rattle.command_line.specs.rule.Program.{audit_app, explain_app, explore_app, history_app, judge_app, open_app, picture_app, program_app, schedule_app, stats_app, strace_app, threads_app}
 use Rattle.command_line.specs.rule.JudgeTasks.{plain_judgement}
-use Rattle.command_line.specs.rule.Tasks.{Task, run, threads, audit, history, explain, open_calls, state, check, picture, stats, from_strace, recorded_history, explore, schedule, judge, flag_words, given, greatest_seed, most_nodes, HasPlainWords, paths_of, plain_words_of}
+use Rattle.command_line.specs.rule.Tasks.{Task, run, threads, audit, history, explain, open_calls, state, check, picture, stats, from_strace, recorded_history, explore, explore_all, schedule, judge, flag_words, given, greatest_seed, most_nodes, most_states, HasPlainWords, paths_of, plain_words_of}
 use Rattle.command_line.specs.rule.Words.{AsksFor, IsPlain}
 use Rattle.command_line.specs.declared.format.Format.TheVariants.{Svg}
 use Rattle.command_line.proofs.BuiltCommands.{commands}
 use Rattle.command_line.proofs.CommandWords.{asks_by, is_path, ArePaths, IsPath, MayBePath}
 use Rattle.command_line.proofs.CheckWords.{check_asks}
-use Rattle.command_line.proofs.ExploreWords.{explore_asks}
+use Rattle.command_line.proofs.ExploreAllWords.{by_limits, explore_all_asks, limit_texts}
+use Rattle.command_line.proofs.ExploreWords.{by_seeds, explore_asks, seed_texts}
 use Rattle.command_line.proofs.JudgeWords.{judge_asks}
-use Rattle.command_line.proofs.Numbers.{greatest_writes, hundred_writes, number_text, one_writes, steps_write}
+use Rattle.command_line.proofs.Numbers.{greatest_writes, hundred_writes, million_writes, number_text, one_writes, steps_write, zero_writes}
 use Rattle.command_line.proofs.PictureWords.{around_asks, picture_asks}
 use Rattle.command_line.proofs.RunWords.{run_asks}
 use Rattle.command_line.proofs.ScheduleWords.{schedule_asks}
@@ -74,7 +75,13 @@ module _ (program path : Text) (p : IsPath path) where
   unfolding clap_on_literals
   left_explore =
       asks_by explore_app commands.explore program (path ∷ []) (explore path 100 1 false false) (rw (p.no_dashes, p.no_minus, p.no_minus) refl)
-      (codes "100", codes "1", rw (p.no_dashes, p.no_minus, p.no_minus) refl, hundred_writes, one_writes 0 greatest_seed (omega arith) (omega arith))
+      (seed_texts (codes "100") (codes "1"), rw (p.no_dashes, p.no_minus, p.no_minus) refl, by_seeds (codes "100") (codes "1") 100 1 (hundred_writes 1 greatest_seed (omega arith) (omega arith)) (one_writes 0 greatest_seed (omega arith) (omega arith)))
+
+  left_limits : AsksFor (program ∷ codes "explore" ∷ path ∷ codes "--all" ∷ []) (explore_all path 0 0 most_states)
+  unfolding clap_on_literals
+  left_limits =
+      asks_by explore_app commands.explore program (path ∷ codes "--all" ∷ []) (explore_all path 0 0 most_states) (rw (p.no_dashes, p.no_minus, p.no_minus) refl)
+      (limit_texts (codes "0") (codes "0") (codes "1000000"), rw (p.no_dashes, p.no_minus, p.no_minus) refl, by_limits (codes "0") (codes "0") (codes "1000000") 0 0 most_states (zero_writes greatest_seed) (zero_writes greatest_seed) (million_writes 1 greatest_seed (omega arith) (omega arith)))
 
   left_schedule : AsksFor (program ∷ codes "schedule" ∷ path ∷ []) (schedule path 1 false)
   unfolding clap_on_literals
@@ -99,6 +106,9 @@ module _ (program path : Text) (plain : slice_get path 0 ≢ Some 45) where
 
   pub bare_explore_asks : AsksFor (program ∷ codes "explore" ∷ path ∷ []) (explore path 100 1 false false)
   bare_explore_asks = left_explore program path (is_path path plain)
+
+  pub bare_every_asks : AsksFor (program ∷ codes "explore" ∷ path ∷ codes "--all" ∷ []) (explore_all path 0 0 most_states)
+  bare_every_asks = left_limits program path (is_path path plain)
 
   pub bare_schedule_asks : AsksFor (program ∷ codes "schedule" ∷ path ∷ []) (schedule path 1 false)
   bare_schedule_asks = left_schedule program path (is_path path plain)
@@ -179,6 +189,10 @@ plain_task program (recorded_history recordings) plain within = recorded_asks pr
 plain_task program (explore script seeds first failures json) plain within =
     explore_asks program script (decimal seeds) (decimal first) seeds first (is_path script (plain 0 [] (omega arith)))
     (number_text 1 greatest_seed seeds (omega arith) within.0 within.1) (number_text 0 greatest_seed first (omega arith) (omega arith) within.2) failures json
+plain_task program (explore_all script losses repeats states) plain within =
+    explore_all_asks program script (decimal losses) (decimal repeats) (decimal states) losses repeats states (is_path script (plain 0 [] (omega arith)))
+    (number_text 0 greatest_seed losses (omega arith) (omega arith) within.0) (number_text 0 greatest_seed repeats (omega arith) (omega arith) within.1)
+    (number_text 1 greatest_seed states (omega arith) within.2 within.3)
 plain_task program (schedule script seed failures) plain within =
     schedule_asks program script (decimal seed) seed (is_path script (plain 0 [] (omega arith))) (number_text 0 greatest_seed seed (omega arith) (omega arith) within) failures
 plain_task program (judge t) plain within =

@@ -11,23 +11,23 @@ use Rattle.command_line.specs.declared.allowed_rule.AllowedRule.{AllowedRule}
 use Rattle.command_line.proofs.CommandLine.{asked_is, beside_histories, beside_several, flag_in, flag_there, form_in, form_is, form_named, given_is, histories_at, is_given, met_is, number_of, number_there, rule_words, several_at, task_named, unmet, value_at}
 
 -- it is met as the task that its name and its values tell
-as_named : (name : Text) (rows : List Row) (task : Task) → IsMet (Some (name, rows)) task → IsMet (Some (name, rows)) (task_named name rows)
+pub as_named : (name : Text) (rows : List Row) (task : Task) → IsMet (Some (name, rows)) task → IsMet (Some (name, rows)) (task_named name rows)
 as_named name rows task met = subst (IsMet (Some (name, rows))) (sym (met_is (name, rows) task met)) met
 
-nowhere : (text : Text) (value : Option Text) → value ≡ None → value ≡ Some text → ⊥
+pub nowhere : (text : Text) (value : Option Text) → value ≡ None → value ≡ Some text → ⊥
 nowhere text value none some = cc
 
 -- no task has the command of this name where a value of it is missing, or is no number, flag or format
-abbrev Unmet : Text → List Row → Type 0
+abbrev pub Unmet : Text → List Row → Type 0
 Unmet name rows = (task : Task) → IsMet (Some (name, rows)) task → ⊥
 
-abbrev NoNumber : ℕ → ℕ → Text → List Row → Type 0
+abbrev pub NoNumber : ℕ → ℕ → Text → List Row → Type 0
 NoNumber least greatest id rows = (text : Text) (number : ℕ) → one_of id rows ≡ Some text → IsNumber least greatest text number → ⊥
 
 abbrev NoGivenNumber : ℕ → ℕ → Text → List Row → Type 0
 NoGivenNumber least greatest id rows = (number : Option ℕ) → MayBeNumber least greatest (one_of id rows) number → ⊥
 
-abbrev NoFlag : Text → List Row → Type 0
+abbrev pub NoFlag : Text → List Row → Type 0
 NoFlag id rows = (flag : Bool) → one_of id rows ≡ Some (flag_text flag) → ⊥
 
 pub no_script : (rows : List Row) → first_of (codes "SCRIPT") rows ≡ None → Unmet (codes "run") rows
@@ -204,25 +204,6 @@ no_record rows recordings nodes places flag all number words may_not task met =
     let places_are : is.places ≡ places = sym (ap (value_at 1) others) ∙ words in
     let P : Bool × List Text × ℕ × Option Text → Type 0 = λ given. MayBecome given.0 given.1 given.2 given.3 in
     may_not (subst P (λ i. (history_is i, recordings_are i, nodes_is i, places_are i)) is.may)
-
-pub no_explored_script : (rows : List Row) → first_of (codes "SCRIPT") rows ≡ None → Unmet (codes "explore") rows
-no_explored_script rows none task met = nowhere _ _ none (ap (value_at 0) (as_named (codes "explore") rows task met).2)
-
-pub no_count : (rows : List Row) → NoNumber 1 greatest_seed (codes "COUNT") rows → Unmet (codes "explore") rows
-no_count rows none task met =
-    let is = as_named (codes "explore") rows task met in
-    none is.0 _ (ap (value_at 1) is.2) is.3
-
-pub no_first_seed : (rows : List Row) → NoNumber 0 greatest_seed (codes "N") rows → Unmet (codes "explore") rows
-no_first_seed rows none task met =
-    let is = as_named (codes "explore") rows task met in
-    none is.1 _ (ap (value_at 2) is.2) is.4
-
-pub no_explored_flag : (rows : List Row) → NoFlag (codes "failures") rows → Unmet (codes "explore") rows
-no_explored_flag rows none task met = none _ (ap (value_at 3) (as_named (codes "explore") rows task met).2)
-
-pub no_explored_json : (rows : List Row) → NoFlag (codes "json") rows → Unmet (codes "explore") rows
-no_explored_json rows none task met = none _ (ap (value_at 4) (as_named (codes "explore") rows task met).2)
 
 pub no_scheduled_script : (rows : List Row) → first_of (codes "SCRIPT") rows ≡ None → Unmet (codes "schedule") rows
 no_scheduled_script rows none task met = nowhere _ _ none (ap (value_at 0) (as_named (codes "schedule") rows task met).1)

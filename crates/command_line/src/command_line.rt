@@ -10,6 +10,7 @@ ghost use Rattle.command_line.specs.rule.Words.{AsksFor, IsRefusal};
 
 use crate::check_words::check_in;
 use crate::commands::program;
+use crate::explore_words::explore_in;
 use crate::journal_lines::{
     audit_in, explain_in, history_in, open_in, picture_in, state_in, stats_in,
 };
@@ -95,6 +96,15 @@ pub enum CommandLine<'a> {
         failures: bool,
         json: bool,
     },
+    /// `explore SCRIPT --all [--losses N] [--repeats N] [--states N]`: to run the script under every schedule in which up
+    /// to so many messages are lost and come again, or none, and to tell what came of them; to give up behind so many
+    /// states, or a million.
+    ExploreAll {
+        script: &'a str,
+        losses: u32,
+        repeats: u32,
+        states: u32,
+    },
     /// `schedule SCRIPT [--seed N] [--failures]`: to print the script of the schedule of this seed, or of 1,
     /// with failures of nodes and servers, if they are asked for.
     Schedule {
@@ -167,6 +177,8 @@ fn complaint(matches: &ArgMatches<'_>) -> &'static str {
             "invalid value for '--format <FORMAT>': it is svg, mermaid or trace",
         Some(("run", values)) => run_complaint(values),
         Some(("judge", values)) => judge_complaint(values),
+        Some(("explore", _)) =>
+            "'--losses', '--repeats' and '--states' go with '--all', and nothing else does",
         Some(("from-strace", _)) =>
             "there is one RECORDING, or with '--history' several, and no '--nodes' or '--place'",
         _ => "no command is given",
@@ -260,23 +272,6 @@ fn threads_in<'a>(values: &ArgMatches<'a>) -> Option<CommandLine<'a>>
         no_join,
         journal: file,
     }))
-}
-
-fn explore_in<'a>(values: &ArgMatches<'a>) -> Option<CommandLine<'a>>
-    ensures { IsLineOf (Some (codes "explore", rows_of (found_of values.now))) result }
-{
-    let script = values.get_str("SCRIPT")?;
-    let seeds = number_in(values, "COUNT", 1, GREATEST_SEED)?;
-    let first = number_in(values, "N", 0, GREATEST_SEED)?;
-    let failures = flag_in(values, "failures")?;
-    let json = flag_in(values, "json")?;
-    Some(CommandLine::Explore {
-        script,
-        seeds,
-        first,
-        failures,
-        json,
-    })
 }
 
 fn schedule_in<'a>(values: &ArgMatches<'a>) -> Option<CommandLine<'a>>

@@ -139,6 +139,34 @@ const EXPLORE: &[Argument<'static>] = &[
     },
     FAILURES,
     JSON,
+    Argument::Flag {
+        name: "all",
+        help: "Go through every schedule, instead of those of seeds",
+    },
+    Argument::Number {
+        id: "LOSSES",
+        long: "losses",
+        default: "0",
+        least: 0,
+        greatest: GREATEST_SEED,
+        help: "With --all: how many messages may be lost",
+    },
+    Argument::Number {
+        id: "REPEATS",
+        long: "repeats",
+        default: "0",
+        least: 0,
+        greatest: GREATEST_SEED,
+        help: "With --all: how often messages may come again",
+    },
+    Argument::Number {
+        id: "STATES",
+        long: "states",
+        default: "1000000",
+        least: 1,
+        greatest: GREATEST_SEED,
+        help: "With --all: after how many states to give up",
+    },
 ];
 
 const SCHEDULE: &[Argument<'static>] = &[

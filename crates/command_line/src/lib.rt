@@ -7,6 +7,7 @@ mod argument;
 mod check_words;
 pub mod command_line;
 mod commands;
+mod explore_words;
 pub mod format;
 mod journal_commands;
 mod journal_lines;

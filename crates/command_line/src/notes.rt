@@ -10,9 +10,10 @@ Exit status:
   1  a command that reads a journal, but check, and --after: it is not one of a run;
      explain, picture: it has no such call; state: no such entry, node or file; picture:
      entries that were asked for are not drawn; threads: the journal lacks a receipt, or
-     the run was stopped as stuck; explore and
-     run --expect: an outcome is not as expected; from-strace: a part of the recording is
-     not served; judge: a history, or an order of one, is contradicted
+     the run was stopped as stuck; run --calm: its rounds were cut off; explore and
+     run --expect: an outcome is not as expected; explore --all: not all schedules were
+     gone through; from-strace: a part of the recording is not served; judge: a history,
+     or an order of one, is contradicted
   2  the words of the command line are refused
   3  SCRIPT, JOURNAL or HISTORY has a bad line, that or RECORDING can't be read, JOURNAL
      is too old to go on from, PLACES places no process, or FILE or the text can't be
@@ -140,7 +141,8 @@ With --calm the run goes on behind the lines of SCRIPT. What is under way is del
 and then rounds follow until no call is open, or a round answers none. In a round each
 server learns which incarnation of each node failed last, each open call is tried again,
 each server sends again what has no answer, and all that is sent in the round is delivered.
-Where an entry of a round is refused, as where the journal is full, the run ends there.
+Where an entry of a round is refused, as where the journal is full, the run ends there,
+'not calm: WHY' stands on standard error, and the exit status is 1.
 
 With --after JOURNAL the script goes on behind the run of JOURNAL, a file that --journal
 wrote. Its first line has to name the same cluster. Messages are counted on, 'settle'
@@ -218,7 +220,14 @@ A comment line right behind a 'call' line says what its reply begins with, lette
 letter:
   # expect WORDS
 Outcomes in which a reply begins otherwise are told first, and the exit status is 1.
-Where there are none, it is 0.";
+Where there are none, it is 0.
+
+With --all the script, a small one, is run under every schedule instead; --seeds, --first,
+--failures and --json don't go with it. Messages are reordered, up to LOSSES of them are
+lost, and up to REPEATS times one comes again. Where an outcome breaks what is expected, a
+shortest schedule that comes to one is printed below the outcomes. Where there are more
+than STATES states, the text says that not all schedules were gone through, and the exit
+status is 1 too.";
 
 /// What stands under the options of `schedule`.
 pub(crate) const SCHEDULE_NOTES: &str = "\

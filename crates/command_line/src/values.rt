@@ -10,6 +10,9 @@ pub(crate) const GREATEST_SEED: u32 = u32::MAX;
 /// How many tables of a file are looked at where that is left out.
 pub(crate) const DEFAULT_STEPS: u32 = 10_000_000;
 
+/// Behind how many states to give up where that is left out.
+pub(crate) const MOST_STATES: u32 = 1_000_000;
+
 /// The most nodes of a cluster.
 pub(crate) const MOST_NODES: u32 = 64;
 

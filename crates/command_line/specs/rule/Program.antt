@@ -6,7 +6,7 @@ use Rattle.clap.specs.Simple.{on_top}
 use Rattle.clap.specs.declared.builder.action.ArgAction.TheVariants.{Append, SetTrue}
 use Rattle.clap.specs.declared.builder.value_parser.ValueParser.TheVariants.{Signed}
 use Rattle.command_line.specs.rule.JudgeTasks.{MayJudge, rule_text}
-use Rattle.command_line.specs.rule.Tasks.{Task, run, threads, audit, history, explain, open_calls, state, check, picture, stats, from_strace, recorded_history, explore, schedule, judge, format_text, is_json, is_quiet, greatest_seed, most_files, most_nodes, MayBeQuiet, MayRecord}
+use Rattle.command_line.specs.rule.Tasks.{Task, run, threads, audit, history, explain, open_calls, state, check, picture, stats, from_strace, recorded_history, explore, explore_all, schedule, judge, format_text, is_json, is_quiet, greatest_seed, most_states, most_files, most_nodes, MayBeQuiet, MayRecord}
 
 -- a word that must be there: a path, or the name of a call
 abbrev pub path_rule : Text → Rule
@@ -67,6 +67,16 @@ seed_rule long = number_rule (codes "N") long (codes "1") 0 greatest_seed
 -- `--seeds COUNT`, from 1 on, and 100 if it is left out
 abbrev pub seeds_rule : Rule
 seeds_rule = number_rule (codes "COUNT") (codes "seeds") (codes "100") 1 greatest_seed
+
+-- `--losses N` and `--repeats N`, and none if they are left out; `--states N`, and a million if it is left out
+abbrev pub losses_rule : Rule
+losses_rule = number_rule (codes "LOSSES") (codes "losses") (codes "0") 0 greatest_seed
+
+abbrev pub repeats_rule : Rule
+repeats_rule = number_rule (codes "REPEATS") (codes "repeats") (codes "0") 0 greatest_seed
+
+abbrev pub states_rule : Rule
+states_rule = number_rule (codes "STATES") (codes "states") (codes "1000000") 1 greatest_seed
 
 -- `--from K` and `--to L`, from 1 on, and the least and the greatest if they are left out
 abbrev pub from_rule : Rule
@@ -136,7 +146,8 @@ abbrev pub strace_app : App
 strace_app = with_rule (with_rule (with_rule (with_rule (new_app (codes "from-strace")) (paths_rule (codes "RECORDING"))) nodes_rule) places_rule) (flag_rule (codes "history"))
 
 abbrev pub explore_app : App
-explore_app = with_rule (with_rule (with_rule (with_rule (with_rule (new_app (codes "explore")) (path_rule (codes "SCRIPT"))) seeds_rule) (seed_rule (codes "first"))) (flag_rule (codes "failures"))) json_rule
+explore_app =
+    with_rule (with_rule (with_rule (with_rule (with_rule (with_rule (with_rule (with_rule (with_rule (new_app (codes "explore")) (path_rule (codes "SCRIPT"))) seeds_rule) (seed_rule (codes "first"))) (flag_rule (codes "failures"))) json_rule) (flag_rule (codes "all"))) losses_rule) repeats_rule) states_rule
 
 abbrev pub schedule_app : App
 schedule_app = with_rule (with_rule (with_rule (new_app (codes "schedule")) (path_rule (codes "SCRIPT"))) (seed_rule (codes "seed"))) (flag_rule (codes "failures"))
@@ -214,7 +225,7 @@ abbrev pub check_values_in : Option (Text × List Row) → Option (Text × Optio
 check_values_in = option_map (λ p. (p.0, all_of (codes "SCRIPT") p.1, map (λ read. read p.1) (first_of (codes "FILE") ∷ one_of (codes "json") ∷ [])))
 
 abbrev pub explore_values_in : Option (Text × List Row) → Option (Text × List (Option Text))
-explore_values_in = read_in (first_of (codes "SCRIPT") ∷ one_of (codes "COUNT") ∷ one_of (codes "N") ∷ one_of (codes "failures") ∷ one_of (codes "json") ∷ [])
+explore_values_in = read_in (first_of (codes "SCRIPT") ∷ one_of (codes "COUNT") ∷ one_of (codes "N") ∷ one_of (codes "failures") ∷ one_of (codes "json") ∷ one_of (codes "all") ∷ one_of (codes "LOSSES") ∷ one_of (codes "REPEATS") ∷ one_of (codes "STATES") ∷ [])
 
 abbrev pub schedule_values_in : Option (Text × List Row) → Option (Text × List (Option Text))
 schedule_values_in = read_in (first_of (codes "SCRIPT") ∷ one_of (codes "N") ∷ one_of (codes "failures") ∷ [])
@@ -228,6 +239,32 @@ judge_values_in =
       unwrap_or (all_of (codes "RULE") p.1) [],
       map (λ read. read p.1) (one_of (codes "N") ∷ first_of (codes "FILE") ∷ one_of (codes "order") ∷ one_of (codes "go-on") ∷ one_of (codes "stats") ∷ one_of (codes "json") ∷ one_of (codes "picture") ∷ []),
     ))
+
+-- the texts of the numbers of `explore`
+pub record ExploreTexts : Type 0 where
+  pub seeds : Text
+  pub first : Text
+  pub losses : Text
+  pub repeats : Text
+  pub states : Text
+
+abbrev pub explore_values : Text → Text → Text → Text → ExploreTexts → List (Option Text)
+explore_values script failures json all t = Some script ∷ Some t.seeds ∷ Some t.first ∷ Some failures ∷ Some json ∷ Some all ∷ Some t.losses ∷ Some t.repeats ∷ Some t.states ∷ []
+
+-- they are those of schedules of seeds, with the limits that are left out; or those limits, with the seeds left out
+pub record AreSeeds (t : ExploreTexts) (seeds first : ℕ) : Type 0 where
+  pub of_seeds : IsNumber 1 greatest_seed t.seeds seeds
+  pub of_first : IsNumber 0 greatest_seed t.first first
+  pub of_losses : IsNumber 0 0 t.losses 0
+  pub of_repeats : IsNumber 0 0 t.repeats 0
+  pub of_states : IsNumber most_states most_states t.states most_states
+
+pub record AreLimits (t : ExploreTexts) (losses repeats states : ℕ) : Type 0 where
+  pub of_seeds : IsNumber 100 100 t.seeds 100
+  pub of_first : IsNumber 1 1 t.first 1
+  pub of_losses : IsNumber 0 greatest_seed t.losses losses
+  pub of_repeats : IsNumber 0 greatest_seed t.repeats repeats
+  pub of_states : IsNumber 1 greatest_seed t.states states
 
 -- it is the command of the task, with its paths, its numbers, its flags, its format, the name of its call and the words that place processes
 abbrev pub IsMet : Option (Text × List Row) → Task → Type 0
@@ -254,8 +291,9 @@ IsMet met (recorded_history recordings) =
     (text : Text) × (nodes : ℕ) × (places : Option Text) × (strace_values_in met ≡ Some (codes "from-strace", Some recordings, Some text ∷ places ∷ Some (flag_text true) ∷ []))
     × IsNumber 1 most_nodes text nodes × MayRecord recordings nodes places
 IsMet met (explore script seeds first failures json) =
-    (count : Text) × (text : Text) × (explore_values_in met ≡ Some (codes "explore", Some script ∷ Some count ∷ Some text ∷ Some (flag_text failures) ∷ Some (flag_text json) ∷ []))
-    × IsNumber 1 greatest_seed count seeds × IsNumber 0 greatest_seed text first
+    (t : ExploreTexts) × (explore_values_in met ≡ Some (codes "explore", explore_values script (flag_text failures) (flag_text json) (flag_text false) t)) × AreSeeds t seeds first
+IsMet met (explore_all script losses repeats states) =
+    (t : ExploreTexts) × (explore_values_in met ≡ Some (codes "explore", explore_values script (flag_text false) (flag_text false) (flag_text true) t)) × AreLimits t losses repeats states
 IsMet met (schedule script seed failures) =
     (text : Text) × (schedule_values_in met ≡ Some (codes "schedule", Some script ∷ Some text ∷ Some (flag_text failures) ∷ [])) × IsNumber 0 greatest_seed text seed
 IsMet met (judge t) =

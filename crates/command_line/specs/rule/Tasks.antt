@@ -11,7 +11,7 @@ use Rattle.command_line.specs.declared.listing_form.ListingForm.TheVariants.{Wor
 use Rattle.command_line.specs.declared.run_line.RunLine.{RunLine}
 use Rattle.command_line.specs.declared.run_line.ThreadsLine.{ThreadsLine}
 use Rattle.command_line.specs.declared.state_line.StateLine.{StateLine}
-use Rattle.command_line.specs.declared.command_line.CommandLine.TheVariants.{Run, Threads, Audit, History, Explain, Open, State, Check, Picture, Stats, FromStrace, RecordedHistory, Explore, Schedule, Judge}
+use Rattle.command_line.specs.declared.command_line.CommandLine.TheVariants.{Run, Threads, Audit, History, Explain, Open, State, Check, Picture, Stats, FromStrace, RecordedHistory, Explore, ExploreAll, Schedule, Judge}
 
 -- what is to be done, with the paths of the files that are named, the name of a call, and the words that place processes
 pub data Task : Type 0 where
@@ -41,6 +41,8 @@ pub data Task : Type 0 where
   recorded_history : List Text → Task
   -- to run the script under so many schedules, from this seed on, with failures, if they are asked for
   explore : Text → ℕ → ℕ → Bool → Bool → Task
+  -- to run the script under every schedule in which so many messages may be lost, and come again so often, up to so many states
+  explore_all : Text → ℕ → ℕ → ℕ → Task
   -- to print the script of the schedule of this seed, with failures, if they are asked for
   schedule : Text → ℕ → Bool → Task
   -- to judge histories
@@ -73,6 +75,7 @@ task_of (Stats journal json) = stats journal.now json
 task_of (FromStrace recording nodes places) = from_strace recording.now nodes (option_map (λ words. words.now) places)
 task_of (RecordedHistory recordings) = recorded_history (map (λ recording. recording.now) recordings.items)
 task_of (Explore script seeds first failures json) = explore script.now seeds first failures json
+task_of (ExploreAll script losses repeats states) = explore_all script.now losses repeats states
 task_of (Schedule script seed failures) = schedule script.now seed failures
 task_of (Judge line) = judge (judge_task_of line)
 
@@ -95,6 +98,7 @@ paths_of (stats journal json) = journal ∷ []
 paths_of (from_strace recording nodes places) = recording ∷ given places
 paths_of (recorded_history recordings) = recordings
 paths_of (explore script seeds first failures json) = script ∷ []
+paths_of (explore_all script losses repeats states) = script ∷ []
 paths_of (schedule script seed failures) = script ∷ []
 paths_of (judge t) = t.histories ++ given t.explains
 
@@ -113,6 +117,7 @@ journal_path (stats journal json) = None
 journal_path (from_strace recording nodes places) = None
 journal_path (recorded_history recordings) = None
 journal_path (explore script seeds first failures json) = None
+journal_path (explore_all script losses repeats states) = None
 journal_path (schedule script seed failures) = None
 journal_path (judge t) = None
 
@@ -178,6 +183,7 @@ plain_words_of (stats journal json) = codes "stats" ∷ journal ∷ flag_words (
 plain_words_of (from_strace recording nodes places) = codes "from-strace" ∷ recording ∷ number_words (codes "--nodes") nodes ++ option_words (codes "--place") places
 plain_words_of (recorded_history recordings) = codes "from-strace" ∷ recordings ++ codes "--history" ∷ []
 plain_words_of (explore script seeds first failures json) = codes "explore" ∷ script ∷ number_words (codes "--seeds") seeds ++ number_words (codes "--first") first ++ flag_words (codes "--failures") failures ++ flag_words (codes "--json") json
+plain_words_of (explore_all script losses repeats states) = codes "explore" ∷ script ∷ codes "--all" ∷ number_words (codes "--losses") losses ++ number_words (codes "--repeats") repeats ++ number_words (codes "--states") states
 plain_words_of (schedule script seed failures) = codes "schedule" ∷ script ∷ number_words (codes "--seed") seed ++ flag_words (codes "--failures") failures
 plain_words_of (judge t) =
     codes "judge" ∷ t.histories ++ (number_words (codes "--steps") t.steps ++ (option_words (codes "--explains") t.explains ++ (allow_words t.allowed
@@ -186,6 +192,10 @@ plain_words_of (judge t) =
 -- the greatest seed, which has 32 bits; of entries and of seeds that are counted there are no more
 abbrev pub greatest_seed : ℕ
 greatest_seed = 4294967295
+
+-- behind how many states to give up where that is left out
+abbrev pub most_states : ℕ
+most_states = 1000000
 
 -- the most nodes of a cluster, and its most files
 abbrev pub most_nodes : ℕ
@@ -226,5 +236,6 @@ HasPlainWords (stats journal json) = ⊤
 HasPlainWords (from_strace recording nodes places) = (1 ≤ nodes) × (nodes ≤ most_nodes)
 HasPlainWords (recorded_history recordings) = recordings ≢ []
 HasPlainWords (explore script seeds first failures json) = (1 ≤ seeds) × (seeds ≤ greatest_seed) × (first ≤ greatest_seed)
+HasPlainWords (explore_all script losses repeats states) = (losses ≤ greatest_seed) × (repeats ≤ greatest_seed) × (1 ≤ states) × (states ≤ greatest_seed)
 HasPlainWords (schedule script seed failures) = seed ≤ greatest_seed
 HasPlainWords (judge t) = (1 ≤ t.steps) × (t.steps ≤ greatest_seed) × MayJudge t
