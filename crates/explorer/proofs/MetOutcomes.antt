@@ -60,7 +60,7 @@ module _ {X : Type 0} (xs : List X) (i j : ℕ) (i_in : i < length xs) (j_in : j
             ]
       ]
 
-differ-permutation : {X : Type 0} (xs ys : List X) → IsPermutation xs ys → Differ xs → Differ ys
+pub differ-permutation : {X : Type 0} (xs ys : List X) → IsPermutation xs ys → Differ xs → Differ ys
 differ-permutation xs ys same differ = IsPermutation-keeps xs Differ differ (λ l i j i_in j_in all. differ-swap l i j i_in j_in all) ys same
 
 -- the seeds of answers, where one seed more comes to them

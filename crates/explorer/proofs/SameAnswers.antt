@@ -8,7 +8,7 @@ use Rattle.model.specs.declared.reply.Reply.TheVariants.{Done, Fd, Again, Free, 
 use Rattle.model.specs.contracts.lock_info.LockInfoPartialEq.TheImpl as derived_of_locks
 use Rattle.model.specs.contracts.reply.ReplyPartialEq.TheImpl as derived_of_replies
 use Rattle.explorer.specs.declared.explored_answer.ExploredAnswer.{ExploredAnswer}
-use Rattle.explorer.specs.declared.explored_answer.ExploredAnswer.TheVariants.{NotMade, Refused, Open, Replied}
+use Rattle.explorer.specs.declared.explored_answer.ExploredAnswer.TheVariants as answer
 use Rattle.explorer.specs.contracts.explored_answer.ExploredAnswerPartialEq.TheImpl as derived
 
 -- the derived `==` of locks is equality
@@ -16,7 +16,7 @@ lock_eq-Decides : (a b : LockInfo) → Decides (derived_of_locks.ghosts.eq a b) 
 lock_eq-Decides a b = grind (arith, common_steps)
 
 -- and so is that of replies
-reply_eq-Decides : (a b : Reply) → Decides (derived_of_replies.ghosts.eq a b) (a ≡ b)
+pub reply_eq-Decides : (a b : Reply) → Decides (derived_of_replies.ghosts.eq a b) (a ≡ b)
 reply_eq-Decides Done Done = (λ h. refl, λ e. refl)
 reply_eq-Decides (Fd fd) (Fd other) = grind (arith, common_steps)
 reply_eq-Decides (Again a) (Again b) = (λ h. ap Again ((lock_eq-Decides a b).0 h), λ e. (lock_eq-Decides a b).1 (cc))
@@ -34,8 +34,10 @@ reply_eq-Decides _ _ = (λ h. absurd (false≢true h), λ e. cc)
 
 -- and that of answers
 pub answer_eq-Decides : (a b : ExploredAnswer) → Decides (derived.ghosts.eq a b) (a ≡ b)
-answer_eq-Decides NotMade NotMade = (λ h. refl, λ e. refl)
-answer_eq-Decides (Refused code) (Refused other) = grind (arith, common_steps)
-answer_eq-Decides Open Open = (λ h. refl, λ e. refl)
-answer_eq-Decides (Replied a) (Replied b) = (λ h. ap Replied ((reply_eq-Decides a b).0 h), λ e. (reply_eq-Decides a b).1 (cc))
+answer_eq-Decides answer.NotMade answer.NotMade = (λ h. refl, λ e. refl)
+answer_eq-Decides (answer.Refused code) (answer.Refused other) = grind (arith, common_steps)
+answer_eq-Decides answer.Open answer.Open = (λ h. refl, λ e. refl)
+answer_eq-Decides answer.Blocked answer.Blocked = (λ h. refl, λ e. refl)
+answer_eq-Decides answer.Undelivered answer.Undelivered = (λ h. refl, λ e. refl)
+answer_eq-Decides (answer.Replied a) (answer.Replied b) = (λ h. ap answer.Replied ((reply_eq-Decides a b).0 h), λ e. (reply_eq-Decides a b).1 (cc))
 answer_eq-Decides _ _ = (λ h. absurd (false≢true h), λ e. cc)

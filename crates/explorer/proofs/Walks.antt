@@ -120,32 +120,32 @@ taken-next made known taken node pid (Call n p op) before =
 taken-next made known taken node pid _ before = unmoved (list_in known node pid) taken (list_in made node pid) false before
 
 -- what a line comes to
-tried-answer : (tried : Option (Option ℕ)) (before : List (Option ℕ)) (named : List CallId) (entries : List EntryFields) →
-    answer_tried tried (named_answer (slice_get named (count_taken before)) entries) ≡ tried_answer tried before named entries
-tried-answer None before named entries = refl
-tried-answer (Some (Some code)) before named entries = refl
-tried-answer (Some None) before named entries = refl
+tried-answer : (left : CallId → ExploredAnswer) (tried : Option (Option ℕ)) (before : List (Option ℕ)) (named : List CallId) (entries : List EntryFields) →
+    answer_tried tried (named_answer left (slice_get named (count_taken before)) entries) ≡ tried_answer left tried before named entries
+tried-answer left None before named entries = refl
+tried-answer left (Some (Some code)) before named entries = refl
+tried-answer left (Some None) before named entries = refl
 
-pub answer-here : (made : ByProcess (Option ℕ)) (known taken : ByProcess Op) (earlier : List ScriptCommand) (c : ScriptCommand) (done : List LineFields) (refused : List RefusedLine) (entries : List EntryFields) →
+pub answer-here : (left : CallId → ExploredAnswer) (made : ByProcess (Option ℕ)) (known taken : ByProcess Op) (earlier : List ScriptCommand) (c : ScriptCommand) (done : List LineFields) (refused : List RefusedLine) (entries : List EntryFields) →
     KnowsTries made refused done → KnowsCalls known earlier → ((node pid : ℕ) → AreTaken (list_in taken node pid) (list_in known node pid) (list_in made node pid)) →
-    answer_by entries taken (next_try made known c) c ≡ answer_behind earlier c done refused entries
-answer-here made known taken earlier (Call n p op) done refused entries made_is known_is taken_is =
+    answer_by left entries taken (next_try made known c) c ≡ answer_behind left earlier c done refused entries
+answer-here left made known taken earlier (Call n p op) done refused entries made_is known_is taken_is =
     let ts = list_in made n p in
     let k = length (list_in known n p) in
     let named = names n p entries in
-    ap (λ (m : ℕ). answer_tried (slice_get ts k) (named_answer (slice_get named m) entries)) (taken_is n p)
-    ∙ tried-answer (slice_get ts k) (take k ts) named entries
-    ∙ ap (λ (xs : List (Option ℕ)). tried_answer (slice_get xs k) (take k xs) named entries) (made_is n p)
-    ∙ ap (λ (ops : List Op). let xs = tries refused n p done in tried_answer (slice_get xs (length ops)) (take (length ops) xs) named entries) (known_is n p)
-answer-here made known taken earlier _ done refused entries made_is known_is taken_is = refl
+    ap (λ (m : ℕ). answer_tried (slice_get ts k) (named_answer left (slice_get named m) entries)) (taken_is n p)
+    ∙ tried-answer left (slice_get ts k) (take k ts) named entries
+    ∙ ap (λ (xs : List (Option ℕ)). tried_answer left (slice_get xs k) (take k xs) named entries) (made_is n p)
+    ∙ ap (λ (ops : List Op). let xs = tries refused n p done in tried_answer left (slice_get xs (length ops)) (take (length ops) xs) named entries) (known_is n p)
+answer-here left made known taken earlier _ done refused entries made_is known_is taken_is = refl
 
 -- one line more
-pub answers-next : (earlier more : List ScriptCommand) (l : LineFields) (rest done : List LineFields) (refused : List RefusedLine) (entries : List EntryFields) (answers new : List ExploredAnswer) (a : ExploredAnswer) (all : List ExploredAnswer) →
-    new ≡ answers ++ a ∷ [] → a ≡ answer_behind earlier l.command done refused entries → more ≡ earlier ++ l.command ∷ [] →
-    answers ++ answers_behind earlier (l ∷ rest) done refused entries ≡ all → new ++ answers_behind more rest done refused entries ≡ all
-answers-next earlier more l rest done refused entries answers new a all is here on before =
-    let after = answers_behind (earlier ++ l.command ∷ []) rest done refused entries in
-    ap (λ (cs : List ScriptCommand). new ++ answers_behind cs rest done refused entries) on
+pub answers-next : (left : CallId → ExploredAnswer) (earlier more : List ScriptCommand) (l : LineFields) (rest done : List LineFields) (refused : List RefusedLine) (entries : List EntryFields) (answers new : List ExploredAnswer) (a : ExploredAnswer) (all : List ExploredAnswer) →
+    new ≡ answers ++ a ∷ [] → a ≡ answer_behind left earlier l.command done refused entries → more ≡ earlier ++ l.command ∷ [] →
+    answers ++ answers_behind left earlier (l ∷ rest) done refused entries ≡ all → new ++ answers_behind left more rest done refused entries ≡ all
+answers-next left earlier more l rest done refused entries answers new a all is here on before =
+    let after = answers_behind left (earlier ++ l.command ∷ []) rest done refused entries in
+    ap (λ (cs : List ScriptCommand). new ++ answers_behind left cs rest done refused entries) on
     ∙ ap (λ (xs : List ExploredAnswer). xs ++ after) is
     ∙ append_assoc answers (a ∷ []) after
     ∙ ap (λ (b : ExploredAnswer). answers ++ b ∷ after) here

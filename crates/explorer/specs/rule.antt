@@ -1,8 +1,12 @@
+pub mod AllSchedules
 pub mod Answers
+pub mod Choices
 pub mod Comparisons
 pub mod Ends
 pub mod Expectations
 pub mod Explores
+pub mod Left
 pub mod Outcomes
 pub mod Schedules
+pub mod Situations
 pub mod Texts

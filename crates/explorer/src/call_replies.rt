@@ -1,6 +1,7 @@
 //! What entries tell of calls.
 use crate::by_process::{ByProcess, add, value_at};
 use crate::explored_answer::ExploredAnswer;
+use crate::left_calls::Left;
 use messages::entry::Entry;
 use messages::event::{Event, NodeInput};
 use model::call::CallId;
@@ -38,6 +39,7 @@ impl<'a> Model for CallReplies<'a> {
 impl<'a> CallReplies<'a> {
     ghost use Rattle.std.specs.Prelude.{◌≡◌, slice_get, IfOk, IfSome, Some};
     ghost use Rattle.explorer.specs.declared.explored_answer.ExploredAnswer.TheVariants.{Open};
+    ghost use Rattle.explorer.specs.code.LeftCalls.{left_of};
     ghost use Rattle.explorer.specs.rule.Answers.{named_answer, names, reply_answer};
 
     /// What these entries tell.
@@ -54,12 +56,13 @@ impl<'a> CallReplies<'a> {
         })
     }
 
-    /// What the call at the index comes to, from 0, of those of the process that were taken.
-    pub(crate) fn answer(&self, node: u8, pid: u16, index: usize) -> ExploredAnswer
-        ensures { result ≡ named_answer (slice_get (names node pid self.now) index) self.now }
+    /// What the call at the index comes to, from 0, of those of the process that were taken, where this is what is known
+    /// of those that are open.
+    pub(crate) fn answer(&self, left: &Left, node: u8, pid: u16, index: usize) -> ExploredAnswer
+        ensures { result ≡ named_answer (left_of left.now) (slice_get (names node pid self.now) index) self.now }
     {
         match value_at(&self.names, node, pid, index) {
-            Some(call) => self.answer_to(&call),
+            Some(call) => or_left(self.answer_to(&call), left, call),
             None => ExploredAnswer::Open,
         }
     }
@@ -89,9 +92,20 @@ impl<'a> CallReplies<'a> {
 
 ghost use Rattle.std.specs.Prelude.{◌≡◌, ◌++◌, ◌∷◌, [], ℕ, List, if◌then◌else◌, option_to_list, IfOk, OnOk};
 ghost use Rattle.messages.specs.code.Entries.{EntryFields};
-ghost use Rattle.explorer.specs.rule.Answers.{is_call_by};
+ghost use Rattle.explorer.specs.rule.Answers.{is_call_by, or_left};
 ghost use Rattle.explorer.specs.code.ByProcess.{list_in};
 ghost use Rattle.explorer.specs.code.Indexes.{KnowsNames, KnowsReplies};
+ghost use Rattle.explorer.specs.code.LeftCalls.{left_of};
+
+// The answer, but where that is that the call is open, what is known of it.
+fn or_left(answer: ExploredAnswer, left: &Left, call: CallId) -> ExploredAnswer
+    ensures { result ≡ or_left answer (left_of left.now call) }
+{
+    match answer {
+        ExploredAnswer::Open => left.answer(call),
+        other => other,
+    }
+}
 
 // The names of the calls of the entries.
 fn names(alloc: Global, entries: &[Entry]) -> Result<CallNames, AllocError>

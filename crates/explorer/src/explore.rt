@@ -4,10 +4,13 @@ ghost use Rattle.std.specs.List.{list_any};
 ghost use Rattle.std.specs.List.Sorted.{IsPermutation};
 ghost use Rattle.lockscript.specs.declared.play_error.PlayError.TheVariants.{JournalFull, NoMemory};
 ghost use Rattle.player.specs.code.Parts.{state_of};
+ghost use Rattle.model.specs.declared.call.CallId.{CallId};
 ghost use Rattle.explorer.specs.declared.explored_answer.ExploredAnswer.{ExploredAnswer};
 ghost use Rattle.explorer.specs.rule.Answers.{answers_in};
 ghost use Rattle.explorer.specs.rule.Expectations.{breaks};
 ghost use Rattle.explorer.specs.rule.Explores.{Explores};
+ghost use Rattle.explorer.specs.rule.Ends.{is_whole};
+ghost use Rattle.explorer.specs.rule.Left.{TellsLeft};
 ghost use Rattle.explorer.specs.rule.Outcomes.{AreMet, AreOrdered, AreOutcomesOf, ComesIn, IsOutcomeOf, OutcomeParts, seed_of, seeds_of, with_seed};
 ghost use Rattle.explorer.specs.rule.Schedules.{HasFullSchedule};
 
@@ -29,7 +32,7 @@ use std::alloc::{AllocError, Global};
 
 /// The distinct outcomes of a script, which the text writes, under the schedules of the seeds from `first` on,
 /// `count` of them; behind 4294967295 comes seed 0. An outcome is what each call of the script comes to: its
-/// reply, the number of a refusal, that it is open, or that it was not made. Of each it is told how many of the
+/// reply, the number of a refusal, that it is open, with what is known of it, or that it was not made. Of each it is told how many of the
 /// seeds came to it, and which is the first.
 ///
 /// Those that break what is expected come before the others, and of each kind the more frequent ones first. Of
@@ -82,15 +85,18 @@ fn told(
     }
 }
 
-// Whether some outcome breaks what is expected.
-fn some_breaks(outcomes: &[ExploredOutcome]) -> bool
+/// Whether some outcome breaks what is expected.
+pub(crate) fn some_breaks(outcomes: &[ExploredOutcome]) -> bool
     ensures { result ≡ list_any (λ o. o.breaks) outcomes.now }
 {
     outcomes.iter().any(|outcome| outcome.breaks())
 }
 
-// The outcomes by their ranks.
-fn ordered(outcomes: Vec<ExploredOutcome>) -> Result<Vec<ExploredOutcome>, AllocError>
+/// The outcomes by their ranks.
+///
+/// # Errors
+/// `AllocError` where a request for memory was refused.
+pub(crate) fn ordered(outcomes: Vec<ExploredOutcome>) -> Result<Vec<ExploredOutcome>, AllocError>
     ensures same { IfOk result (λ ordered. IsPermutation outcomes.items ordered.items) }
     ensures ordered { IfOk result (λ ordered. AreOrdered ordered.items) }
 {
@@ -145,7 +151,7 @@ fn answers_under(
     script: &Script,
     scheduled: &Scheduled,
 ) -> Result<Vec<ExploredAnswer>, PlayError>
-    ensures answered { IfOk result (λ answers. answers.items ≡ answers_in script.now.lines scheduled.now.commands (state_of scheduled.now.played)) }
+    ensures answered { IfOk result (λ answers. (left : CallId → ExploredAnswer) × TellsLeft (is_whole script.now.lines scheduled.now.commands) (state_of scheduled.now.played).world left × (answers.items ≡ answers_in left script.now.lines scheduled.now.commands (state_of scheduled.now.played))) }
     ensures err { IfErr result (λ error. error ≡ NoMemory) }
 {
     let answers = answers(
@@ -200,8 +206,8 @@ fn add_new(
     Ok(())
 }
 
-// Where an outcome with these answers stands; none where each has others.
-fn position_of(outcomes: &[ExploredOutcome], answers: &[ExploredAnswer]) -> Option<usize>
+/// Where an outcome with these answers stands; none where each has others.
+pub(crate) fn position_of(outcomes: &[ExploredOutcome], answers: &[ExploredAnswer]) -> Option<usize>
     ensures { MatchOption result (All (λ o. o.answers ≢ answers.now) outcomes.now) (λ index. (index < length outcomes.now) × HoldsAt (λ o. o.answers ≡ answers.now) outcomes.now index) }
 {
     outcomes

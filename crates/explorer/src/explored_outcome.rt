@@ -9,7 +9,7 @@ use std::marker::Model;
 /// What the lines of a script come to, one answer for each, the seeds that came to it, and whether an answer
 /// breaks what is expected.
 #[derive(Drop)]
-pub(crate) struct ExploredOutcome {
+pub struct ExploredOutcome {
     answers: Vec<ExploredAnswer>,
     seeds: Vec<u32>,
     breaks: bool,
@@ -36,21 +36,21 @@ impl ExploredOutcome {
     }
 
     /// What each line comes to.
-    pub(crate) fn answers(&self) -> &[ExploredAnswer]
+    pub fn answers(&self) -> &[ExploredAnswer]
         ensures { result.now ≡ self.now.answers }
     {
         self.answers.as_slice()
     }
 
     /// The seeds that came to it, in order.
-    pub(crate) fn seeds(&self) -> &[u32]
+    pub fn seeds(&self) -> &[u32]
         ensures { result.now ≡ self.now.seeds }
     {
         self.seeds.as_slice()
     }
 
     /// Whether an answer breaks what is expected.
-    pub(crate) fn breaks(&self) -> bool
+    pub fn breaks(&self) -> bool
         ensures { result ≡ self.now.breaks }
     {
         self.breaks

@@ -54,5 +54,8 @@ fn is_ended_in(outcome: &ExploredOutcome, index: usize) -> bool
 fn is_open(answer: Option<&ExploredAnswer>) -> bool
     ensures { result ≡ is_open (option_map (λ a. a.now) answer.entry) }
 {
-    matches!(answer, Some(ExploredAnswer::Open))
+    matches!(
+        answer,
+        Some(ExploredAnswer::Open | ExploredAnswer::Blocked | ExploredAnswer::Undelivered)
+    )
 }

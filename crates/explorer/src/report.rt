@@ -106,8 +106,11 @@ fn push_answered(
     push_answer(out, answer)
 }
 
-// Writes the numbers of the lines that are open in each outcome, if there are any.
-fn push_open(out: &mut String, numbers: &[u32]) -> Result<(), AllocError> {
+/// Writes the numbers of the lines that are open in each outcome, if there are any.
+///
+/// # Errors
+/// `AllocError` where a request for memory was refused.
+pub(crate) fn push_open(out: &mut String, numbers: &[u32]) -> Result<(), AllocError> {
     let Some((first, rest)) = numbers.split_first() else {
         return Ok(());
     };

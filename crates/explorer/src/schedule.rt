@@ -204,8 +204,8 @@ fn line_limit(lines: &[ScriptLine]) -> u32
     limit_of(lines.len()) + FIRST_LINE
 }
 
-// How many lines a schedule of so many lines may have.
-fn limit_of(count: usize) -> u32
+/// How many lines a schedule of so many lines may have.
+pub(crate) fn limit_of(count: usize) -> u32
     ensures limit { result ≡ limit_of count }
     ensures few { result ≤ most_lines }
 {

@@ -65,9 +65,9 @@ answer_tried (Some (Some code)) answer = Refused code
 answer_tried (Some None) answer = answer
 
 -- what a line comes to by the entries, where this was tried for it, and of those of its process these were taken before
-abbrev pub answer_by : List EntryFields → ByProcess Op → Option (Option ℕ) → ScriptCommand → ExploredAnswer
-answer_by entries taken tried (Call node pid op) = answer_tried tried (named_answer (slice_get (names node pid entries) (length (list_in taken node pid))) entries)
-answer_by entries taken tried _ = NotMade
+abbrev pub answer_by : (CallId → ExploredAnswer) → List EntryFields → ByProcess Op → Option (Option ℕ) → ScriptCommand → ExploredAnswer
+answer_by left entries taken tried (Call node pid op) = answer_tried tried (named_answer left (slice_get (names node pid entries) (length (list_in taken node pid))) entries)
+answer_by left entries taken tried _ = NotMade
 
 -- the command is no call, and a line may ask for it
 abbrev pub IsServedOther : ScriptCommand → Type 0

@@ -14,13 +14,15 @@ use Rattle.lockscript.specs.rule.Scripts.{LineFields}
 use Rattle.lockscript.specs.rule.Texts.{reply_text}
 use Rattle.player.specs.rule.Played.{PlayedState}
 use Rattle.explorer.specs.declared.explored_answer.ExploredAnswer.{ExploredAnswer}
-use Rattle.explorer.specs.declared.explored_answer.ExploredAnswer.TheVariants.{NotMade, Refused, Open, Replied}
+use Rattle.explorer.specs.declared.explored_answer.ExploredAnswer.TheVariants.{NotMade, Refused, Open, Blocked, Undelivered, Replied}
 use Rattle.explorer.specs.rule.Schedules.{calls_of, numbered}
 
 abbrev pub answer_text : ExploredAnswer → List ℕ
 answer_text NotMade = codes "not made"
 answer_text (Refused code) = codes "refused " ++ decimal code
 answer_text Open = codes "open"
+answer_text Blocked = codes "open, blocked for good"
+answer_text Undelivered = codes "open, not delivered yet"
 answer_text (Replied reply) = reply_text reply
 
 -- the number of the refusal of the line of this number, if it was refused
@@ -63,9 +65,15 @@ abbrev pub reply_answer : CallId → List EntryFields → ExploredAnswer
 reply_answer call [] = Open
 reply_answer call (e ∷ es) = answer_or (reply_in call e.reply) (reply_answer call es)
 
-abbrev pub named_answer : Option CallId → List EntryFields → ExploredAnswer
-named_answer None entries = Open
-named_answer (Some call) entries = reply_answer call entries
+-- an open call comes to the other answer
+abbrev pub or_left : ExploredAnswer → ExploredAnswer → ExploredAnswer
+or_left Open other = other
+or_left answer other = answer
+
+-- what a call comes to, where this is what it comes to if no entry replies to it
+abbrev pub named_answer : (CallId → ExploredAnswer) → Option CallId → List EntryFields → ExploredAnswer
+named_answer left None entries = Open
+named_answer left (Some call) entries = or_left (reply_answer call entries) (left call)
 
 abbrev pub is_taken : Option ℕ → Bool
 is_taken None = true
@@ -76,26 +84,26 @@ abbrev pub count_taken : List (Option ℕ) → ℕ
 count_taken tries = count_by is_taken tries
 
 -- what a call comes to, by what was tried up to it, itself last: of those that were taken each has the next name
-abbrev pub tried_answer : Option (Option ℕ) → List (Option ℕ) → List CallId → List EntryFields → ExploredAnswer
-tried_answer None earlier named entries = NotMade
-tried_answer (Some (Some code)) earlier named entries = Refused code
-tried_answer (Some None) earlier named entries = named_answer (slice_get named (count_taken earlier)) entries
+abbrev pub tried_answer : (CallId → ExploredAnswer) → Option (Option ℕ) → List (Option ℕ) → List CallId → List EntryFields → ExploredAnswer
+tried_answer left None earlier named entries = NotMade
+tried_answer left (Some (Some code)) earlier named entries = Refused code
+tried_answer left (Some None) earlier named entries = named_answer left (slice_get named (count_taken earlier)) entries
 
 -- what the call of a process comes to before which so many calls of it stand in the script
-abbrev pub call_answer : ℕ → List (Option ℕ) → List CallId → List EntryFields → ExploredAnswer
-call_answer before tries named entries = tried_answer (slice_get tries before) (take before tries) named entries
+abbrev pub call_answer : (CallId → ExploredAnswer) → ℕ → List (Option ℕ) → List CallId → List EntryFields → ExploredAnswer
+call_answer left before tries named entries = tried_answer left (slice_get tries before) (take before tries) named entries
 
 -- what a line of a script comes to, behind these commands of it, where these lines are run, by those that are refused and the entries
-abbrev pub answer_behind : List ScriptCommand → ScriptCommand → List LineFields → List RefusedLine → List EntryFields → ExploredAnswer
-answer_behind earlier (Call node pid op) made refused entries =
-    call_answer (length (calls_of node pid earlier)) (tries refused node pid made) (names node pid entries) entries
-answer_behind earlier _ made refused entries = NotMade
+abbrev pub answer_behind : (CallId → ExploredAnswer) → List ScriptCommand → ScriptCommand → List LineFields → List RefusedLine → List EntryFields → ExploredAnswer
+answer_behind left earlier (Call node pid op) made refused entries =
+    call_answer left (length (calls_of node pid earlier)) (tries refused node pid made) (names node pid entries) entries
+answer_behind left earlier _ made refused entries = NotMade
 
 -- what each line comes to
-abbrev pub answers_behind : List ScriptCommand → List LineFields → List LineFields → List RefusedLine → List EntryFields → List ExploredAnswer
-answers_behind earlier [] made refused entries = []
-answers_behind earlier (l ∷ ls) made refused entries = answer_behind earlier l.command made refused entries ∷ answers_behind (earlier ++ l.command ∷ []) ls made refused entries
+abbrev pub answers_behind : (CallId → ExploredAnswer) → List ScriptCommand → List LineFields → List LineFields → List RefusedLine → List EntryFields → List ExploredAnswer
+answers_behind left earlier [] made refused entries = []
+answers_behind left earlier (l ∷ ls) made refused entries = answer_behind left earlier l.command made refused entries ∷ answers_behind left (earlier ++ l.command ∷ []) ls made refused entries
 
--- what the lines of a script come to in this schedule of them, by what came of it
-abbrev pub answers_in : List LineFields → List ScriptCommand → PlayedState → List ExploredAnswer
-answers_in lines commands p = answers_behind [] lines (numbered commands) p.refused p.journal.entries
+-- what the lines of a script come to in this schedule of them, by what came of it, where this is what they come to that are open
+abbrev pub answers_in : (CallId → ExploredAnswer) → List LineFields → List ScriptCommand → PlayedState → List ExploredAnswer
+answers_in left lines commands p = answers_behind left [] lines (numbered commands) p.refused p.journal.entries

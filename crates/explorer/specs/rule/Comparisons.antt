@@ -6,10 +6,11 @@ use Rattle.lockscript.specs.rule.Scripts.{LineFields}
 use Rattle.player.specs.rule.Played.{PlayedState}
 use Rattle.explorer.specs.rule.Answers.{answers_behind}
 use Rattle.explorer.specs.rule.Expectations.{breaks}
+use Rattle.explorer.specs.rule.Left.{left_unknown}
 
 -- in a run some line of the script comes to what begins otherwise than its text expects
 abbrev pub breaks_in_run : List ℕ → List LineFields → List RefusedLine → List EntryFields → Bool
-breaks_in_run text lines refused entries = breaks text lines (answers_behind [] lines lines refused entries)
+breaks_in_run text lines refused entries = breaks text lines (answers_behind left_unknown [] lines lines refused entries)
 
 -- the same of a run of which so many entries were there before the script
 abbrev pub breaks_behind : List ℕ → List LineFields → ℕ → PlayedState → Bool

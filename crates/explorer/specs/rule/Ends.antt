@@ -1,5 +1,5 @@
 -- How schedules end.
-use Rattle.std.specs.Prelude.{◌≡◌, ◌⊎◌, ℕ, ◌&&◌, false, All, List, [], ◌∷◌, ◌++◌, length, slice_get, Option, Some, None}
+use Rattle.std.specs.Prelude.{◌≡◌, ◌⊎◌, ℕ, ◌&&◌, not, nat_eq, Bool, false, All, List, [], ◌∷◌, ◌++◌, length, slice_get, Option, Some, None}
 use Rattle.model.specs.declared.call.CallId.{CallId}
 use Rattle.messages.specs.code.Entries.{EntryFields}
 use Rattle.cluster_core.specs.rule.World.{WorldState, has_node, was_declared}
@@ -34,6 +34,10 @@ LeavesOpen node pid commands p = IsOpenAfter node pid (tries p.refused node pid 
 -- of each process it makes all calls, or the last one that it makes is open at the end
 abbrev pub MakesAll : List LineFields → List ScriptCommand → PlayedState → Type 0
 MakesAll lines commands p = (node pid : ℕ) → MakesCallsOf node pid lines commands ⊎ LeavesOpen node pid commands p
+
+-- it has fewer lines than it may have
+abbrev pub is_whole : List LineFields → List ScriptCommand → Bool
+is_whole lines commands = not (nat_eq (length commands) (line_limit lines))
 
 -- so it does, or it has as many lines as it may have
 abbrev pub IsEnded : List LineFields → List ScriptCommand → PlayedState → Type 0

@@ -3,14 +3,16 @@ use Rattle.std.specs.Prelude.{◌≡◌, ◌≢◌, ◌⊎◌, ℕ, ◌+◌, ◌
 use Rattle.std.specs.List.{list_any}
 use Rattle.std.specs.Ordering.{nat_cmp, ordering_then}
 use Rattle.std.specs.List.Sorted.{IsSortedByKey}
+use Rattle.model.specs.declared.call.CallId.{CallId}
 use Rattle.lockscript.specs.declared.script_line.ScriptCommand.{ScriptCommand}
 use Rattle.lockscript.specs.rule.Scripts.{LineFields, ScriptFields}
 use Rattle.player.specs.rule.Played.{PlayedState, ComesTo}
 use Rattle.explorer.specs.declared.explored_answer.ExploredAnswer.{ExploredAnswer}
-use Rattle.explorer.specs.declared.explored_answer.ExploredAnswer.TheVariants.{Open}
+use Rattle.explorer.specs.declared.explored_answer.ExploredAnswer.TheVariants.{Open, Blocked, Undelivered}
 use Rattle.explorer.specs.rule.Answers.{answers_in}
-use Rattle.explorer.specs.rule.Ends.{IsEnded}
+use Rattle.explorer.specs.rule.Ends.{IsEnded, is_whole}
 use Rattle.explorer.specs.rule.Expectations.{breaks}
+use Rattle.explorer.specs.rule.Left.{TellsLeft}
 use Rattle.explorer.specs.rule.Schedules.{numbered, IsScheduleOf}
 
 -- what the lines of a script come to, one answer for each, the seeds that came to it, and whether an answer breaks what is expected
@@ -26,7 +28,9 @@ pub record ComesIn (failures : Bool) (script : ScriptFields) (answers : List Exp
   pub of_script : IsScheduleOf failures script.lines commands
   pub comes : ComesTo script.shape (numbered commands) played
   pub ended : IsEnded script.lines commands played
-  pub answered : answers ≡ answers_in script.lines commands played
+  pub left : CallId → ExploredAnswer
+  pub tells : TellsLeft (is_whole script.lines commands) played.world left
+  pub answered : answers ≡ answers_in left script.lines commands played
 
 -- the same of an outcome, of which it is known whether it breaks what the text expects
 pub record IsOutcomeOf (failures : Bool) (script : ScriptFields) (text : List ℕ) (o : OutcomeParts) : Type 0 where
@@ -69,9 +73,11 @@ pub record AreMet (failures : Bool) (script : ScriptFields) (first seeds : ℕ) 
   pub of_script : All (ComesIn failures script) came
   pub outcomes_of : AreOutcomesOf first came outcomes
 
--- the answer at this place is open
+-- the answer at this place is that the call is open
 abbrev pub is_open : Option ExploredAnswer → Bool
 is_open (Some Open) = true
+is_open (Some Blocked) = true
+is_open (Some Undelivered) = true
 is_open _ = false
 
 -- in some outcome the answer at this place is another one

@@ -7,6 +7,7 @@ use Rattle.lockscript.specs.declared.script_line.ScriptCommand.{ScriptCommand}
 use Rattle.lockscript.specs.rule.Scripts.{LineFields}
 use Rattle.explorer.specs.rule.Answers.{answer_behind, answers_behind, count_taken}
 use Rattle.explorer.specs.code.ByProcess.{list_in}
+use Rattle.explorer.specs.code.LeftCalls.{left_of}
 use Rattle.explorer.specs.code.Indexes.{answer_by, next_try}
 use Rattle.explorer.specs.rule.Schedules.{calls_of, op_of}
 use Rattle.explorer.proofs.Walks.{answer-here, answers-next, calls-push, commands-more, commands_of, drop_here, taken-next}
@@ -16,6 +17,7 @@ pub loop-line-preserved : goal.loop-line-preserved
 loop-line-preserved c =
     let lines = c.args.lines.now in
     let entries = c.args.entries.now in
+    let left = left_of c.args.left.now in
     let i = c.loop-line.line-index in
     let l = c.line-item.result in
     let command = c.command-command.result in
@@ -43,13 +45,13 @@ loop-line-preserved c =
       answered = λ made refused knows.
           let here =
           noted.answer
-          ∙ ap (λ (es : List EntryFields). answer_by es taken tried command) c.in_ok-told.ensures
-          ∙ answer-here tries known taken earlier command made refused entries knows inv.known inv.counted
-          ∙ ap (λ (d : ScriptCommand). answer_behind earlier d made refused entries) c.command-command.ensures.value in
+          ∙ ap (λ (es : List EntryFields). answer_by left es taken tried command) c.in_ok-told.ensures
+          ∙ answer-here left tries known taken earlier command made refused entries knows inv.known inv.counted
+          ∙ ap (λ (d : ScriptCommand). answer_behind left earlier d made refused entries) c.command-command.ensures.value in
           let before =
-          ap (λ (ls : List LineFields). c.loop-line.answers.items ++ answers_behind earlier ls made refused entries) (sym (drop_here lines i l c.loop-line-test.true c.line-item.is))
+          ap (λ (ls : List LineFields). c.loop-line.answers.items ++ answers_behind left earlier ls made refused entries) (sym (drop_here lines i l c.loop-line-test.true c.line-item.is))
           ∙ inv.answered made refused knows in
-          answers-next earlier _ l (drop (i + 1) lines) made refused entries c.loop-line.answers.items c.push.new.self.items c.in_ok-answer.answer _ c.in_ok-push.ensures.items here more before;
+          answers-next left earlier _ l (drop (i + 1) lines) made refused entries c.loop-line.answers.items c.push.new.self.items c.in_ok-answer.answer _ c.in_ok-push.ensures.items here more before;
     }
 
 pub returns : goal.returns
@@ -59,5 +61,5 @@ returns c made refused knows =
     let answers = c.loop-line.answers.items in
     let none : drop i lines ≡ [] = grind (arith, common_steps, c.loop-line-test.false, c.loop-line.auto.line-index-end) in
     sym (append-nil answers)
-    ∙ ap (λ (ls : List LineFields). answers ++ answers_behind (commands_of (take i lines)) ls made refused c.args.entries.now) (sym none)
+    ∙ ap (λ (ls : List LineFields). answers ++ answers_behind (left_of c.args.left.now) (commands_of (take i lines)) ls made refused c.args.entries.now) (sym none)
     ∙ c.loop-line.invariant.answered made refused knows

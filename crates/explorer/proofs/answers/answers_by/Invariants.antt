@@ -3,6 +3,7 @@ use Rattle.lockscript.specs.declared.refused_line.RefusedLine.{RefusedLine}
 use Rattle.lockscript.specs.rule.Scripts.{LineFields}
 use Rattle.explorer.specs.rule.Answers.{answers_behind, count_taken}
 use Rattle.explorer.specs.code.ByProcess.{list_in}
+use Rattle.explorer.specs.code.LeftCalls.{left_of}
 use Rattle.explorer.specs.code.Indexes.{KnowsCalls, KnowsTries}
 use Rattle.explorer.proofs.Walks.{commands_of}
 use Rattle.explorer.proofs.answers.answers_by.Given as goal
@@ -12,5 +13,5 @@ invariant-loop-line l = record {
   known : KnowsCalls l.earlier (commands_of (take l.line-index l.lines));
   counted : (node pid : ℕ) → length (list_in l.taken node pid) ≡ count_taken (take (length (list_in l.earlier node pid)) (list_in l.tries node pid));
   answered : (made : List LineFields) (refused : List RefusedLine) → KnowsTries l.tries refused made
-      → l.answers.items ++ answers_behind (commands_of (take l.line-index l.lines)) (drop l.line-index l.lines) made refused l.entries ≡ answers_behind [] l.lines made refused l.entries;
+      → l.answers.items ++ answers_behind (left_of l.left) (commands_of (take l.line-index l.lines)) (drop l.line-index l.lines) made refused l.entries ≡ answers_behind (left_of l.left) [] l.lines made refused l.entries;
 }

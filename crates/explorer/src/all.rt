@@ -1,0 +1,20 @@
+//! Every schedule of a script: what may come next where one stands, and all situations to which that leads.
+pub mod call_state;
+pub mod choice;
+mod choices;
+mod due;
+pub mod explore;
+pub mod explored;
+mod keys;
+mod left;
+pub mod limits;
+mod lines;
+mod listed;
+mod notes;
+mod outcomes;
+mod path;
+mod report;
+mod same;
+mod search;
+mod situation;
+mod witness;
