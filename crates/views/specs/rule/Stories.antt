@@ -12,7 +12,7 @@ use Rattle.cluster_core.specs.declared.item.Item.TheVariants.{Answered, Gone}
 use Rattle.views.specs.rule.About.{PlacedFields, NumberedFields, answers, delivers, makes, numbered, number_of, part_of, placed}
 use Rattle.views.specs.rule.OpenCalls.{ended_by}
 use Rattle.views.specs.rule.Undelivered.{undelivered}
-use Rattle.views.specs.rule.Ways.{WayFields, changes, concerns, first_way, heard_at, server_of, way_behind}
+use Rattle.views.specs.rule.Ways.{WayFields, changes, concerns, first_way, heard_at, holders_in, server_of, way_behind}
 
 -- an entry makes the call
 abbrev pub is_made : CallId → List EntryFields → Bool
@@ -53,9 +53,9 @@ pub record TellingFields : Type 0 where
   pub sent : List NumberedFields
   pub told : List ToldFields
 
--- nothing was told of a call with this server
-abbrev pub untold : Option ℕ → TellingFields
-untold server = record { way = first_way server; sent = []; told = [] }
+-- nothing was told of a call with this server, for which these nodes are sent revokes
+abbrev pub untold : Option ℕ → List Host → TellingFields
+untold server holders = record { way = first_way server holders; sent = []; told = [] }
 
 -- what is told of an entry, where the call's way is this one, and these messages were sent before
 abbrev pub told_at : CallId → WayFields → List NumberedFields → PlacedFields → ToldFields
@@ -82,7 +82,7 @@ told_more call t p =
 
 -- what is told of entries; positions and messages count from 1
 abbrev pub told_of : CallId → List EntryFields → List ToldFields
-told_of call entries = (fold (told_more call) (untold (server_of call entries)) (placed 1 1 entries)).told
+told_of call entries = (fold (told_more call) (untold (server_of call entries) (holders_in call entries)) (placed 1 1 entries)).told
 
 -- what a story has: the call, what is told of entries, the messages about it that were not delivered, where a history has it, and the entry that ended it
 pub record StoryFields : Type 0 where

@@ -1,5 +1,5 @@
 -- What changes a call's way to its reply, between the messages about it.
-use Rattle.std.specs.Prelude.{ℕ, ◌+◌, Bool, true, false, not, ◌&&◌, ◌||◌, ◌==◌, nat_le, nat_lt, if◌then◌else◌, List, [], ◌∷◌, ◌++◌, filter, filter_map, find, fold, slice_get, Option, None, option_map}
+use Rattle.std.specs.Prelude.{ℕ, ◌+◌, Bool, true, false, not, ◌&&◌, ◌||◌, ◌==◌, nat_le, nat_lt, if◌then◌else◌, List, [], ◌∷◌, ◌++◌, filter, filter_map, find, flat_map, fold, slice_get, Option, None, option_map}
 use Rattle.std.specs.List.{list_any}
 use Rattle.std.specs.Option.{option_map_or}
 use Rattle.model.specs.declared.call.CallId.{CallId}
@@ -22,9 +22,10 @@ pub record AwaitedFields : Type 0 where
   pub number : ℕ
   pub host : Host
 
--- the way of a call: the file of its server, if there is a message about it; whether it was made and has no reply, and its server doesn't know that its node failed; the nodes, each in its incarnation, on which it depends: its own, and each that was sent a revoke for it; and the reports that its server awaits. Of both none whose failure the server knows
+-- the way of a call: the file of its server, if there is a message about it; up to its end, the nodes that are sent revokes for it in any entry; whether it was made and has no reply, and its server doesn't know that its node failed; the nodes, each in its incarnation, on which it depends: its own, and each that was sent a revoke for it; and the reports that its server awaits. Of the last two none whose failure the server knows
 pub record WayFields : Type 0 where
   pub server : Option ℕ
+  pub holders : List Host
   pub is_open : Bool
   pub hosts : List Host
   pub awaited : List AwaitedFields
@@ -37,8 +38,8 @@ abbrev pub server_of : CallId → List EntryFields → Option ℕ
 server_of call entries = slice_get (filter_map (λ e. server_in call e.sends) entries) 0
 
 -- before the first entry
-abbrev pub first_way : Option ℕ → WayFields
-first_way server = record { server = server; is_open = false; hosts = []; awaited = [] }
+abbrev pub first_way : Option ℕ → List Host → WayFields
+first_way server holders = record { server = server; holders = holders; is_open = false; hosts = []; awaited = [] }
 
 -- there is a server, and it is that of the file
 abbrev pub is_of_file : ℕ → Option ℕ → Bool
@@ -63,6 +64,16 @@ is_move_of_host e _ host = false
 abbrev pub moves_host : EntryFields → Event → Host → Bool
 moves_host e (Member member) host = is_move_of_host e member host
 moves_host e _ host = false
+
+-- the entry declares the node failed in this incarnation
+abbrev pub is_declared : EntryFields → MemberEvent → Host → Bool
+is_declared e (Declare node) host = (node == host.node) && (e.incarnation == host.incarnation)
+is_declared e _ host = false
+
+-- the entry declares one of the nodes failed
+abbrev pub declares_one : List Host → EntryFields → Event → Bool
+declares_one hosts e (Member member) = list_any (is_declared e member) hosts
+declares_one hosts e _ = false
 
 -- the reports with the one that the message asks for
 abbrev pub with_asked : List AwaitedFields → Message → List AwaitedFields
@@ -101,8 +112,12 @@ abbrev pub touches : Option ℕ → EntryFields → Host → Bool
 touches server e host = moves_host e e.event host || hears server e e.event host
 
 -- the entry changes the way of an open call: its server fails or begins again; a node of the way does, or the server hears that
+abbrev pub changes_open : WayFields → EntryFields → Bool
+changes_open w e = w.is_open && (moves_server w.server e.event || (list_any (λ h. touches w.server e h) w.hosts || list_any (λ a. touches w.server e a.host) w.awaited))
+
+-- the entry changes the way of a call: the way of an open one, or a node is declared failed that is sent a revoke for it, also later
 abbrev pub changes : WayFields → EntryFields → Bool
-changes w e = w.is_open && (moves_server w.server e.event || (list_any (λ h. touches w.server e h) w.hosts || list_any (λ a. touches w.server e a.host) w.awaited))
+changes w e = declares_one w.holders e e.event || changes_open w e
 
 -- the nodes with one more, unless it is there
 abbrev pub with_host : Host → List Host → List Host
@@ -133,6 +148,19 @@ concerns call w m = is_about call m || is_freed_for call w m
 abbrev pub with_holder : CallId → List Host → Message → List Host
 with_holder call hosts (Revoke file number holder named mode wanted) = if is_about call (Revoke file number holder named mode wanted) then with_host holder hosts else hosts
 with_holder call hosts m = hosts
+
+-- the node to which the message is a revoke for the call; none where it is no such one
+abbrev pub holders_of : CallId → Message → List Host
+holders_of call (Revoke file number holder named mode wanted) = if is_about call (Revoke file number holder named mode wanted) then holder ∷ [] else []
+holders_of call m = []
+
+-- the nodes to which the entry sends revokes for the call
+abbrev pub holders_at : CallId → EntryFields → List Host
+holders_at call e = flat_map (holders_of call) e.sends
+
+-- the nodes to which entries send revokes for the call
+abbrev pub holders_in : CallId → List EntryFields → List Host
+holders_in call entries = flat_map (holders_at call) entries
 
 -- the message is the awaited report
 abbrev pub is_report : Message → AwaitedFields → Bool
@@ -171,10 +199,15 @@ hosts_behind call server e hosts = fold (with_holder call) (filter (λ h. not (h
 abbrev pub is_open_behind : CallId → WayFields → EntryFields → Bool
 is_open_behind call w e = (makes call e || w.is_open) && not (answers call e || hears w.server e e.event (host_of_call call))
 
+-- the nodes that are sent revokes for the call, behind the entry: none where the call, which was open or is made there, is not open any more
+abbrev pub holders_behind : CallId → WayFields → EntryFields → List Host
+holders_behind call w e = if (makes call e || w.is_open) && not (is_open_behind call w e) then [] else w.holders
+
 -- the way behind the entry
 abbrev pub way_behind : CallId → WayFields → EntryFields → WayFields
 way_behind call w e = record {
   server = w.server;
+  holders = holders_behind call w e;
   is_open = is_open_behind call w e;
   hosts = hosts_behind call w.server e w.hosts;
   awaited = awaited_behind w.server e e.event w.awaited;

@@ -26,6 +26,9 @@ pub(crate) const ROW: u128 = 52;
 // The greatest height of a box.
 const HEIGHT: u128 = 10;
 
+// The height of the box that marks where the node or the server of a row fails or starts, behind the others.
+const HEIGHTS: u128 = 48;
+
 /// The left edge of the column behind so many.
 pub(crate) fn column_left(count: usize) -> u128
     ensures { result < 2 ^ 72 }
@@ -117,6 +120,9 @@ fn push_tally(
         return Ok(());
     }
     push_title(out, column, actor, tally)?;
+    if tally.failures > 0 {
+        push_box(out, "rule-name", corner, COLUMN, HEIGHTS)?;
+    }
     push_height(
         out,
         "calls",

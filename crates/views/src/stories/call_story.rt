@@ -19,9 +19,9 @@ use std::marker::Model;
 /// there or is sent. From the call to its reply, or until its server hears that its node failed, these are
 /// told too: a message by which a node that was sent a revoke for the call tells that server that locks may be
 /// gone; the failure of that server, of such a node, of the call's own, or of one whose report the server
-/// awaits, and that it begins again; and that the server hears of the failure of such a node. Messages have
-/// numbers from 1 in the order of sending, over all entries. A message that comes has the number of the last
-/// one that was sent before and equals it.
+/// awaits, and that it begins again; and that the server hears of the failure of such a node. So is the failure
+/// of a node before a revoke for the call is sent to it. Messages have numbers from 1 in the order of sending,
+/// over all entries. A message that comes has the number of the last one that was sent before and equals it.
 #[derive(Drop)]
 pub struct CallStory<'a> {
     pub(crate) call: CallId,

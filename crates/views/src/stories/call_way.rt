@@ -1,12 +1,12 @@
 //! The ways of calls to their replies. Each error is `AllocError`: a request for memory was refused.
-ghost use Rattle.std.specs.Prelude.{◌≡◌, filter, fold, not, IfOk, OnOk};
+ghost use Rattle.std.specs.Prelude.{◌≡◌, ◌++◌, filter, flat_map, fold, not, IfOk, OnOk};
 ghost use Rattle.std.specs.List.{list_any};
 ghost use Rattle.model.specs.rule.Owners.{same_host};
-ghost use Rattle.views.specs.rule.Ways.{changes, concerns, first_way, heard_at, heard_of, hears, hosts_at, hosts_behind, is_freed_for, is_open_behind, touches, way_behind, with_heard, with_holder, with_host};
+ghost use Rattle.views.specs.rule.Ways.{changes, changes_open, concerns, first_way, heard_at, heard_of, hears, holders_in, holders_of, hosts_at, hosts_behind, is_freed_for, is_open_behind, touches, way_behind, with_heard, with_holder, with_host};
 
 use crate::stories::about::{answers, is_about, makes};
 use crate::stories::awaited_reports::{AwaitedReport, pass_reports};
-use crate::stories::failures::{hears, is_of_file, moves_server, touches};
+use crate::stories::failures::{declares_one, hears, is_of_file, moves_server, touches};
 use messages::entry::Entry;
 use messages::message::Message;
 use messages::shared_message::SharedMessage;
@@ -15,13 +15,14 @@ use model::host::Host;
 use std::alloc::{AllocError, Global};
 use std::marker::Model;
 
-/// The way of a call to its reply: the file of its server, if there is a message about it; whether it was
-/// made and has no reply, and that server doesn't know that its node failed; the nodes on which it depends,
-/// its own, and each that was sent a revoke for it; and the reports that the server awaits. Of both none whose
-/// failure the server knows.
+/// The way of a call to its reply: the file of its server, if there is a message about it; up to its end, the
+/// nodes that are sent revokes for it in any entry; whether it was made and has no reply, and that server
+/// doesn't know that its node failed; the nodes on which it depends, its own, and each that was sent a revoke
+/// for it; and the reports that the server awaits. Of the last two none whose failure the server knows.
 #[derive(Drop)]
 pub(crate) struct CallWay {
     server: Option<u16>,
+    holders: Vec<Host>,
     is_open: bool,
     hosts: Vec<Host>,
     awaited: Vec<AwaitedReport>,
@@ -32,16 +33,17 @@ impl Model for CallWay {
 
     ghost Value = { WayFields };
 
-    ghost view = { λ w. record { server = w.server; is_open = w.is_open; hosts = w.hosts.items; awaited = w.awaited.items } };
+    ghost view = { λ w. record { server = w.server; holders = w.holders.items; is_open = w.is_open; hosts = w.hosts.items; awaited = w.awaited.items } };
 }
 
 impl CallWay {
-    /// The way of a call with this server before the first entry.
-    pub(crate) fn new(alloc: Global, server: Option<u16>) -> CallWay
-        ensures { result ≡ first_way server }
+    /// The way of a call with this server, for which these nodes are sent revokes, before the first entry.
+    pub(crate) fn new(alloc: Global, server: Option<u16>, holders: Vec<Host>) -> CallWay
+        ensures { result ≡ first_way server holders.items }
     {
         CallWay {
             server,
+            holders,
             is_open: false,
             hosts: Vec::new(alloc),
             awaited: Vec::new(alloc),
@@ -51,6 +53,13 @@ impl CallWay {
     /// Whether the entry changes the way.
     pub(crate) fn is_changed_by(&self, entry: &Entry) -> bool
         ensures { result ≡ changes self.now entry.now }
+    {
+        declares_one(entry, &self.holders) || self.is_changed_open(entry)
+    }
+
+    // Whether the call is open and the entry changes its way.
+    fn is_changed_open(&self, entry: &Entry) -> bool
+        ensures { result ≡ changes_open self.now entry.now }
     {
         self.is_open
             && (moves_server(self.server, entry.event())
@@ -124,7 +133,11 @@ impl CallWay {
     pub(crate) fn pass(&mut self, call: &CallId, entry: &Entry) -> Result<(), AllocError>
         ensures { OnOk result (self.new ≡ way_behind call.now self.old entry.now) }
     {
-        self.is_open = self.is_open_behind(call, entry);
+        let is_open = self.is_open_behind(call, entry);
+        if (makes(entry, call) || self.is_open) && !is_open {
+            self.holders.clear();
+        }
+        self.is_open = is_open;
         pass_hosts(&mut self.hosts, call, self.server, entry)?;
         pass_reports(&mut self.awaited, self.server, entry)
     }
@@ -195,7 +208,49 @@ fn remove_heard(hosts: &mut Vec<Host>, server: Option<u16>, entry: &Entry)
     hosts.retain(|host| !hears(server, entry, host));
 }
 
+/// The nodes to which entries send revokes for the call.
+pub(crate) fn holders_in(
+    alloc: Global,
+    entries: &[Entry],
+    call: &CallId,
+) -> Result<Vec<Host>, AllocError>
+    ensures { IfOk result (λ holders. holders.items ≡ holders_in call.now entries.now) }
+{
+    let mut holders = Vec::new(alloc);
+    for entry in entries {
+        push_holders(&mut holders, call, entry.sends())?;
+    }
+    Ok(holders)
+}
+
 // The nodes to which these messages are revokes for the call come last.
+fn push_holders(
+    holders: &mut Vec<Host>,
+    call: &CallId,
+    messages: &[SharedMessage],
+) -> Result<(), AllocError>
+    ensures { OnOk result (holders.new.items ≡ holders.old.items ++ flat_map (holders_of call.now) messages.now) }
+{
+    for message in messages {
+        push_holder(holders, call, message.get())?;
+    }
+    Ok(())
+}
+
+// The node to which the message is a revoke for the call comes last.
+fn push_holder(holders: &mut Vec<Host>, call: &CallId, message: &Message) -> Result<(), AllocError>
+    ensures { OnOk result (holders.new.items ≡ holders.old.items ++ holders_of call.now message.now) }
+{
+    match message {
+        Message::Revoke { holder, .. } if is_about(message, call) => {
+            holders.push(*holder)?;
+            Ok(())
+        }
+        _ => Ok(()),
+    }
+}
+
+// The nodes to which these messages are revokes for the call come last, each once.
 fn add_holders(
     hosts: &mut Vec<Host>,
     call: &CallId,

@@ -1,7 +1,7 @@
 //! Failures of nodes and servers, and how servers hear of them.
 ghost use Rattle.std.specs.Prelude.{◌≡◌};
 ghost use Rattle.std.specs.List.{list_any};
-ghost use Rattle.views.specs.rule.Ways.{hears, hears_by, is_hello_to, is_learned, is_move_of_host, is_move_of_server, is_of_file, moves_host, moves_server, passes_over, server_in, server_of, touches};
+ghost use Rattle.views.specs.rule.Ways.{declares_one, hears, hears_by, is_declared, is_hello_to, is_learned, is_move_of_host, is_move_of_server, is_of_file, moves_host, moves_server, passes_over, server_in, server_of, touches};
 
 use crate::stories::about::is_about;
 use messages::entry::Entry;
@@ -63,6 +63,35 @@ fn is_move_of_server(server: Option<u16>, member: &MemberEvent) -> bool
     match member {
         MemberEvent::FailServer { file } | MemberEvent::StartServer { file } => {
             is_of_file(*file, server)
+        }
+        _ => false,
+    }
+}
+
+/// Whether the entry declares one of the nodes failed.
+pub(crate) fn declares_one(entry: &Entry, hosts: &[Host]) -> bool
+    ensures { result ≡ declares_one hosts.now entry.now entry.now.event }
+{
+    match entry.event() {
+        Event::Member(member) => is_one_declared(entry, member, hosts),
+        _ => false,
+    }
+}
+
+// The same of an entry with this failure or begin.
+fn is_one_declared(entry: &Entry, member: &MemberEvent, hosts: &[Host]) -> bool
+    ensures { result ≡ list_any (is_declared entry.now member.now) hosts.now }
+{
+    hosts.iter().any(|host| is_declared(entry, member, host))
+}
+
+// Whether the entry with this failure or begin declares the node failed.
+fn is_declared(entry: &Entry, member: &MemberEvent, host: &Host) -> bool
+    ensures { result ≡ is_declared entry.now member.now host.now }
+{
+    match member {
+        MemberEvent::Declare { node } => {
+            *node == host.node && entry.incarnation() == host.incarnation
         }
         _ => false,
     }

@@ -1,11 +1,12 @@
 //! How a story is told, entry by entry. Each error is `AllocError`: a request for memory was refused.
-use crate::stories::call_way::CallWay;
+use crate::stories::call_way::{CallWay, holders_in};
 use crate::stories::failures::server_of;
 use crate::stories::numbered_entry::NumberedEntry;
 use crate::stories::sent_messages::SentMessages;
 use crate::stories::told_entry::{ToldEntry, is_told};
 use messages::entry::Entry;
 use model::call::CallId;
+use model::host::Host;
 use std::alloc::{AllocError, Global};
 use std::marker::Model;
 
@@ -29,12 +30,12 @@ impl<'a> Telling<'a> {
     ghost use Rattle.std.specs.Prelude.{◌≡◌, OnOk};
     ghost use Rattle.views.specs.rule.Stories.{told_more, told_next, untold};
 
-    // Nothing was told of a call with this server.
-    fn new(alloc: Global, server: Option<u16>) -> Telling<'a>
-        ensures { result ≡ untold server }
+    // Nothing was told of a call with this server, for which these nodes are sent revokes.
+    fn new(alloc: Global, server: Option<u16>, holders: Vec<Host>) -> Telling<'a>
+        ensures { result ≡ untold server holders.items }
     {
         Telling {
-            way: CallWay::new(alloc, server),
+            way: CallWay::new(alloc, server, holders),
             sent: SentMessages::new(alloc),
             told: Vec::new(alloc),
         }
@@ -83,7 +84,8 @@ pub(crate) fn told_of<'a>(
 ) -> Result<Vec<ToldEntry<'a>>, AllocError>
     ensures { IfOk result (λ told. told.items ≡ told_of call.now entries.entry.now) }
 {
-    let mut telling = Telling::new(alloc, server_of(entries, call));
+    let holders = holders_in(alloc, entries, call)?;
+    let mut telling = Telling::new(alloc, server_of(entries, call), holders);
     let mut position = 0u64;
     let mut number = 1u128;
     for entry in entries {
