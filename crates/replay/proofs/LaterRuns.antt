@@ -51,13 +51,13 @@ old-fault Holds RanShort path bytes OldJournal holds text not_old is = absurd is
 old-fault Holds RanShort path bytes (Faulty report) holds text not_old is = absurd is
 
 -- a run that is compared is a run, and so is what it was before rounds made it calm
-pub uncompared : (Holds : Option (List ℕ) → Type 0) (compares calm breaking : Bool) (played : PlayedState) → HasComparedRun Holds compares calm played breaking → (came : PlayedState) × HasRun Holds came
-uncompared Holds compares false breaking played has = (played, (has.0, (has.1.0, has.1.1, has.1.2, has.1.3.0), has.2))
-uncompared Holds compares true breaking played has = (has.2.0, (has.0, (has.1.0, has.1.1, has.1.2, has.1.3.0), has.2.2))
+pub uncompared : (Holds : Option (List ℕ) → Type 0) (compares calm telling : Bool) (played : PlayedState) → HasComparedRun Holds compares calm played telling → (came : PlayedState) × HasRun Holds came
+uncompared Holds compares false telling played has = (played, (has.0, (has.2.0, has.2.1, has.2.2, has.2.3.0), has.3.0))
+uncompared Holds compares true telling played has = (has.3.0, (has.0, (has.2.0, has.2.1, has.2.2, has.2.3.0), has.3.2))
 
-pub uncompared-behind : (Holds : Option (List ℕ) → Type 0) (j : JournalFields) (compares calm breaking : Bool) (played : PlayedState) → HasComparedRunBehind Holds j compares calm played breaking → (came : PlayedState) × HasRunBehind Holds j came
-uncompared-behind Holds j compares false breaking played has = (played, (has.0, (has.1.0, has.1.1, has.1.2, has.1.3.0), has.2))
-uncompared-behind Holds j compares true breaking played has = (has.2.0, (has.0, (has.1.0, has.1.1, has.1.2, has.1.3.0), has.2.2))
+pub uncompared-behind : (Holds : Option (List ℕ) → Type 0) (j : JournalFields) (compares calm telling : Bool) (played : PlayedState) → HasComparedRunBehind Holds j compares calm played telling → (came : PlayedState) × HasRunBehind Holds j came
+uncompared-behind Holds j compares false telling played has = (played, (has.0, (has.2.0, has.2.1, has.2.2, has.2.3.0), has.3.0))
+uncompared-behind Holds j compares true telling played has = (has.3.0, (has.0, (has.2.0, has.2.1, has.2.2, has.2.3.0), has.3.2))
 
 pub had-fault : (old new : Files) (RanShort : Type 0) (path : List ℕ) (j : JournalFields) (fault : Fault) → SameFiles old new → IsBehindFault j (new path) RanShort path fault → IsBehindFault j (old path) RanShort path fault
 had-fault old new RanShort path j (BadLine line) same is = had-text old new path _ same is

@@ -2,7 +2,7 @@
 use Rattle.std.proofs.Common.{ℕ, Bool, true, false, List, Option, Some, None, subst, sym}
 use Rattle.cluster_core.specs.rule.Journals.{JournalFields}
 use Rattle.command_line.specs.declared.listing_form.ListingForm.{ListingForm}
-use Rattle.command_line.specs.rule.Tasks.{Task, run, threads, audit, history, explain, open_calls, state, check, picture, stats, from_strace, recorded_history, explore, schedule, judge, journal_path}
+use Rattle.command_line.specs.rule.Tasks.{Task, run, threads, audit, history, explain, open_calls, state, check, picture, stats, from_strace, recorded_history, explore, explore_all, schedule, judge, journal_path}
 use Rattle.replay.specs.declared.fault.Fault.{Fault}
 use Rattle.replay.specs.declared.fault.Fault.TheVariants.{BadLine, CannotRead, CannotWrite, CannotWriteOutput, NoMemory, JournalFull, OldJournal, Faulty}
 use Rattle.replay.specs.declared.shown.Shown.{Shown}
@@ -47,6 +47,7 @@ done-files old new (stats path json) shown is = is.3
 done-files old new (from_strace path nodes places) shown is = is.2
 done-files old new (recorded_history words) shown is = is.2
 done-files old new (explore path seeds first failures json) shown is = is.1
+done-files old new (explore_all path losses repeats states) shown is = is.1
 done-files old new (schedule path seed failures) shown is = is.1
 done-files old new (judge t) shown is = is.1
 

@@ -18,6 +18,7 @@ mod drafted;
 mod draw;
 mod explain;
 mod explored;
+mod explored_all;
 pub mod fault;
 pub mod file_draft;
 pub mod file_reason;

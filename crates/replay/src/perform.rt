@@ -28,9 +28,9 @@ use thread_runs::run_watcher::RunWatcher;
 /// It is 1 where the journal that the line names is none of a run, or has no call of the name, or not the entry, the node
 /// or the file that is asked for. So it is where a run on
 /// threads lacks a receipt in its journal or was ended as stuck, where an outcome, or a run that is compared with it,
-/// breaks what is expected, where a part of a recording, or of the picture that is asked for, is left out, and where a
+/// breaks what is expected, where an event that was refused cut off the rounds of one that is to be calm, where a part of a recording, or of the picture that is asked for, is left out, and where a
 /// history is contradicted, or is not explained by the orders that are given. The second
-/// writer is told the open calls of a run that was ended as stuck, what a run that is compared came to otherwise, the
+/// writer is told the open calls of a run that was ended as stuck, what a run that is compared came to otherwise, what cut off rounds, the
 /// notes of a recording, and which entries a picture leaves out; at 0 it is told the warnings of a check.
 ///
 /// At 3 and 4 one line on the second writer says why, and the first has got nothing, but for a beginning of what is
@@ -62,7 +62,7 @@ pub fn perform<
 
     // Done: what the file comes to is written and has gone on, the journal that a run is asked for is in
     // its file, and the second writer got nothing, but of a run that was ended as stuck its open calls, of
-    // one that is compared what was expected otherwise, of a recording its notes, of a picture which entries it leaves
+    // one that is compared what was expected otherwise, and of one whose rounds were cut off by what, of a recording its notes, of a picture which entries it leaves
     // out, and of a check its warnings.
     ensures done { result ≤ 1 → Shows (Does (S.holds store.old) (task_of line.now) (S.holds store.new)) (O.taken out.old) (O.taken out.new)
         (TellsBeside E.taken E.has_failed err.old err.new) result }
@@ -118,6 +118,7 @@ fn says_why(line: &CommandLine<'_>) -> bool
         | CommandLine::FromStrace { .. }
         | CommandLine::RecordedHistory { .. }
         | CommandLine::Explore { .. }
+        | CommandLine::ExploreAll { .. }
         | CommandLine::Schedule { .. }
         | CommandLine::Judge(_) => true,
     }

@@ -1,5 +1,5 @@
 //! What scripts come to whose replies may be compared with what they expect.
-ghost use Rattle.std.specs.Prelude.{◌≡◌, ◌&&◌, ℕ, List, drop, Bool, string_bytes, IfErr, IfOk};
+ghost use Rattle.std.specs.Prelude.{◌≡◌, ◌&&◌, ◌||◌, ℕ, List, drop, Bool, is_some, string_bytes, IfErr, IfOk};
 ghost use Rattle.std.specs.Option.{option_map};
 ghost use Rattle.command_line.specs.declared.listing_form.ListingForm.{ListingForm};
 ghost use Rattle.explorer.specs.rule.Comparisons.{breaks_behind, IsCompared};
@@ -22,12 +22,14 @@ use explorer::compared::compared;
 use lockscript::script::Script;
 use lockscript::script_line::ScriptLine;
 use messages::entry::Entry;
+use messages::refusal::Refused;
 use player::played::Played;
 use player::watcher::Watcher;
 use std::alloc::{AllocError, Global};
+use std::fmt::Write;
 
-// What a script came to, and a line for each reply that begins otherwise than the script expects, if the two were
-// compared and there is one.
+// What a script came to, and what is told of it, if anything is: a line for each reply that begins otherwise than the script
+// expects, where the two were compared, and one where an event that was refused cut its rounds off.
 #[derive(Drop)]
 pub(crate) struct Ran {
     pub(crate) played: Played,
@@ -50,8 +52,9 @@ pub(crate) fn run_of<'a, S: Store, V: Watcher>(
     let text = text_of(alloc, store, path)?;
     let script = Script::parse(alloc, text.as_str())?;
     let expecting = kept_to_compare(alloc, text, &script, compares)?;
-    let played = play_in(alloc, script, calm, watcher)?;
-    let told = told_of(alloc, &expecting, &played, 0)?;
+    let (played, cut) = play_in(alloc, script, calm, watcher)?;
+    let compared = told_of(alloc, &expecting, &played, 0)?;
+    let told = with_end(alloc, compared, cut)?;
     Ok(Ran { played, told })
 }
 
@@ -75,8 +78,9 @@ pub(crate) fn run_behind_of<'a, S: Store, V: Watcher>(
     let script = Script::parse_for_shape(alloc, &journal.shape(), text.as_str())?;
     let expecting = kept_to_compare(alloc, text, &script, compares)?;
     let earlier = journal.entries().len();
-    let played = play_behind(alloc, script, journal, calm, watcher)?;
-    let told = told_of(alloc, &expecting, &played, earlier)?;
+    let (played, cut) = play_behind(alloc, script, journal, calm, watcher)?;
+    let compared = told_of(alloc, &expecting, &played, earlier)?;
+    let told = with_end(alloc, compared, cut)?;
     Ok(Ran { played, told })
 }
 
@@ -125,6 +129,26 @@ fn told_of(
     }
 }
 
+// What is told of a run of which this is told already, where this refusal cut its rounds off, if one did.
+fn with_end(
+    alloc: Global,
+    told: Option<String>,
+    cut: Option<Refused>,
+) -> Result<Option<String>, AllocError>
+    ensures { (breaking : Bool) → IsCompared breaking (option_map (λ t. string_bytes t) told)
+        → IfOk result (λ whole. IsCompared (is_some cut || breaking) (option_map (λ t. string_bytes t) whole)) }
+{
+    let Some(refusal) = cut else {
+        return Ok(told);
+    };
+    let mut whole = match told {
+        Some(told) => told,
+        None => String::new(alloc),
+    };
+    writeln!(whole, "not calm: {refusal}")?;
+    Ok(Some(whole))
+}
+
 // The entries behind so many.
 fn entries_behind(entries: &[Entry], earlier: usize) -> &[Entry]
     ensures { result.now ≡ drop earlier entries.now }
@@ -137,8 +161,8 @@ fn entries_behind(entries: &[Entry], earlier: usize) -> &[Entry]
 
 // What is shown of a run of this text.
 pub(crate) fn shown_beside(text: String, told: Option<String>) -> Shown
-    ensures { (played : PlayedState) (breaking with_open : Bool) (form : ListingForm) → IsCompared breaking (option_map (λ t. string_bytes t) told)
-        → IsRunText played with_open form (string_bytes text) → ShowsRun played breaking with_open form result }
+    ensures { (played : PlayedState) (telling with_open : Bool) (form : ListingForm) → IsCompared telling (option_map (λ t. string_bytes t) told)
+        → IsRunText played with_open form (string_bytes text) → ShowsRun played telling with_open form result }
 {
     match told {
         None => Shown::Text(text),

@@ -12,6 +12,7 @@ use crate::counted::counted;
 use crate::draw::draw;
 use crate::explain::{explain, open_calls};
 use crate::explored::{explored, scheduled};
+use crate::explored_all::explored_all;
 use crate::fault::Fault;
 use crate::judge::judge;
 use crate::listing_options::ListingOptions;
@@ -25,6 +26,7 @@ use crate::store::Store;
 use crate::threads::play_on_threads;
 use command_line::command_line::CommandLine;
 use command_line::run_line::{RunLine, ThreadsLine};
+use explorer::all::limits::Limits;
 use player::watcher::Watcher;
 use std::alloc::Global;
 use std::sync::Wait;
@@ -85,6 +87,19 @@ pub(crate) fn shown_of<'a, R: Threads + Wait + Clock + Sync, S: Store, V: Watche
             failures,
             json,
         } => explored(alloc, store, script, seeds, first, failures, json, watcher),
+        CommandLine::ExploreAll {
+            script,
+            losses,
+            repeats,
+            states,
+        } => {
+            let limits = Limits {
+                losses,
+                repeats,
+                states,
+            };
+            explored_all(alloc, store, script, limits, watcher)
+        }
         CommandLine::Schedule {
             script,
             seed,

@@ -5,7 +5,7 @@ use Rattle.cluster_core.specs.rule.Journals.{JournalFields, IsFirstWrong}
 use Rattle.cluster_core.specs.rule.Runs.{IsRun}
 use Rattle.command_line.specs.declared.listing_form.ListingForm.{ListingForm}
 use Rattle.command_line.specs.declared.listing_form.ListingForm.TheVariants.{Words, Json, LeftAway}
-use Rattle.command_line.specs.rule.Tasks.{Task, run, threads, audit, history, explain, open_calls, state, check, picture, stats, from_strace, recorded_history, explore, schedule, judge, journal_path}
+use Rattle.command_line.specs.rule.Tasks.{Task, run, threads, audit, history, explain, open_calls, state, check, picture, stats, from_strace, recorded_history, explore, explore_all, schedule, judge, journal_path}
 use Rattle.journal_text.specs.rule.Journals.{journal_text}
 use Rattle.journal_text.specs.rule.Readings.{WritesJournal}
 use Rattle.replay.specs.declared.fault.Fault.{Fault}
@@ -15,7 +15,7 @@ use Rattle.replay.specs.declared.shown.Shown.TheVariants.{Text, Partial, No}
 use Rattle.replay.specs.rule.Audits.{HasJournal, HasNewJournal, IsAudit, IsHistory, IsReasoned}
 use Rattle.replay.specs.rule.Checks.{AreChecked, IsAtFault}
 use Rattle.replay.specs.rule.Faults.{IsBehindFault, IsJournalFault, IsOldFault, IsScriptFault, IsThreadsFault}
-use Rattle.replay.specs.rule.Explorations.{IsExploreFault, IsExplored, IsScheduled}
+use Rattle.replay.specs.rule.Explorations.{IsAllExplored, IsExploreFault, IsExplored, IsScheduled}
 use Rattle.replay.specs.rule.Judging.{AreJudged, IsJudgedWith, allowed_of}
 use Rattle.replay.specs.rule.Outputs.{AppendsPart}
 use Rattle.player.specs.rule.Played.{PlayedState}
@@ -45,16 +45,16 @@ IsRunText played with_open LeftAway text = with_open ≡ false → text ≡ []
 IsRunText played with_open Json text = ⊤
 IsRunText played with_open Words text = (listing : List ℕ) × IsListing played listing × ((behind : List ℕ) × (with_open ≡ false → behind ≡ []) × (text ≡ listing ++ behind))
 
--- what is shown of a run is this text, and something is told beside it where a reply begins otherwise than expected
+-- what is shown of a run is this text, and something is told beside it where its rounds are cut off, or a reply begins otherwise than expected
 abbrev pub ShowsRun : PlayedState → Bool → Bool → ListingForm → Shown → Type 0
-ShowsRun played breaking with_open form (Text text) = (breaking ≡ false) × IsRunText played with_open form (string_bytes text)
-ShowsRun played breaking with_open form (Partial text told) = (breaking ≡ true) × IsRunText played with_open form (string_bytes text)
-ShowsRun played breaking with_open form shown = ⊥
+ShowsRun played telling with_open form (Text text) = (telling ≡ false) × IsRunText played with_open form (string_bytes text)
+ShowsRun played telling with_open form (Partial text told) = (telling ≡ true) × IsRunText played with_open form (string_bytes text)
+ShowsRun played telling with_open form shown = ⊥
 
 -- the run of a journal went on by the script: what is shown is of the whole, whose journal is kept
 abbrev pub WentOn : Files → List ℕ → JournalFields → Option (List ℕ) → Bool → Bool → ListingForm → Bool → Files → Shown → Type 0
 WentOn old script j to compares with_open form calm new shown =
-    (played : PlayedState) × (breaking : Bool) × HasComparedRunBehind (old script) j compares calm played breaking × ShowsRun played breaking with_open form shown × KeepsJournal old to (journal_text played.journal.shape played.journal.entries) new × IsReadFrom to played.journal
+    (played : PlayedState) × (telling : Bool) × HasComparedRunBehind (old script) j compares calm played telling × ShowsRun played telling with_open form shown × KeepsJournal old to (journal_text played.journal.shape played.journal.entries) new × IsReadFrom to played.journal
 
 -- what is shown where a script goes on behind a journal: the first wrong entry of one that is no run, and no file changes, else what it came to
 abbrev pub GoesOn : Files → List ℕ → JournalFields → Option (List ℕ) → Bool → Bool → ListingForm → Bool → Files → Shown → Type 0
@@ -63,7 +63,7 @@ GoesOn old script j to compares with_open form calm new shown = IsRun j.shape j.
 
 -- what is shown of a task that is done, by the file that it reads, and the files that it leaves
 abbrev pub Does : Files → Task → Files → Shown → Type 0
-Does old (run script None to compares with_open form calm) new shown = (played : PlayedState) × (breaking : Bool) × HasComparedRun (old script) compares calm played breaking × ShowsRun played breaking with_open form shown × KeepsJournal old to (journal_text played.journal.shape played.journal.entries) new × IsReadFrom to played.journal
+Does old (run script None to compares with_open form calm) new shown = (played : PlayedState) × (telling : Bool) × HasComparedRun (old script) compares calm played telling × ShowsRun played telling with_open form shown × KeepsJournal old to (journal_text played.journal.shape played.journal.entries) new × IsReadFrom to played.journal
 Does old (run script (Some after) to compares with_open form calm) new shown = (j : JournalFields) × HasNewJournal (old after) j × GoesOn old script j to compares with_open form calm new shown
 Does old (threads script seed may_stop no_join to) new shown = (t : ThreadedFields) × IsTold (old script) no_join may_stop t × ShowsThreads t shown × KeepsJournal old to t.journal new
 Does old (audit path false) new shown = (j : JournalFields) × HasJournal (old path) j × IsAudit j shown × SameFiles old new
@@ -78,6 +78,7 @@ Does old (stats path json) new shown = (j : JournalFields) × HasJournal (old pa
 Does old (from_strace path nodes places) new shown = HasTextAt old path × IsRecorded nodes places shown × SameFiles old new
 Does old (recorded_history words) new shown = AreRecorded old words × IsRecordedShown shown × SameFiles old new
 Does old (explore path seeds first failures json) new shown = HasText (old path) (λ text. IsExplored failures first seeds text shown) × SameFiles old new
+Does old (explore_all path losses repeats states) new shown = HasText (old path) (λ text. IsAllExplored losses repeats states text shown) × SameFiles old new
 Does old (schedule path seed failures) new shown = HasText (old path) (λ text. IsScheduled failures text shown) × SameFiles old new
 Does old (judge t) new shown = AreJudged old (allowed_of t.allowed) t.histories t.explains shown × SameFiles old new
 
@@ -111,6 +112,7 @@ IsInputFault old RanShort Refuses (stats path json) fault = IsJournalFault (old 
 IsInputFault old RanShort Refuses (from_strace path nodes places) fault = IsToolFault old (λ file. file ≡ path) ⊤ fault
 IsInputFault old RanShort Refuses (recorded_history words) fault = IsToolFault old (IsRecordingOf words) ⊤ fault
 IsInputFault old RanShort Refuses (explore path seeds first failures json) fault = IsExploreFault failures (old path) RanShort path fault
+IsInputFault old RanShort Refuses (explore_all path losses repeats states) fault = IsExploreFault false (old path) RanShort path fault
 IsInputFault old RanShort Refuses (schedule path seed failures) fault = IsExploreFault failures (old path) RanShort path fault
 IsInputFault old RanShort Refuses (judge t) fault = IsToolFault old (IsJudgedWith t.histories t.explains) ⊤ fault
 

@@ -1,6 +1,8 @@
 -- What is shown of the schedules of a script, and why nothing is.
-use Rattle.std.specs.Prelude.{◌≡◌, ℕ, Bool, true, false, List, string_bytes, Option}
+use Rattle.std.specs.Prelude.{◌≡◌, ◌||◌, not, ℕ, Bool, true, false, List, string_bytes, Option}
 use Rattle.explorer.specs.declared.explored.Explored.{Explored}
+use Rattle.explorer.specs.declared.all.explored.AllExplored.{AllExplored}
+use Rattle.explorer.specs.rule.AllSchedules.{ExploresAll}
 use Rattle.explorer.specs.rule.Ends.{IsEnded}
 use Rattle.explorer.specs.rule.Explores.{Explores}
 use Rattle.explorer.specs.rule.Schedules.{HasFullSchedule, IsScheduleOf, numbered}
@@ -35,6 +37,16 @@ abbrev pub IsExplored : Bool → ℕ → ℕ → List ℕ → Shown → Type 0
 IsExplored failures first seeds text (Text shown) = HasOutcomes failures first seeds text false
 IsExplored failures first seeds text (Wanting shown) = HasOutcomes failures first seeds text true
 IsExplored failures first seeds text shown = ⊥
+
+-- the script that a text writes has outcomes under every schedule within these limits, of which none breaks what is expected where all were gone through, or not so
+abbrev pub HasAllOutcomes : ℕ → ℕ → ℕ → List ℕ → Bool → Type 0
+HasAllOutcomes losses repeats states text wanting = (s : ScriptFields) × IsForThreads text s × ((e : AllExplored) × ExploresAll (record { losses = losses; repeats = repeats; states = states }) s text e × ((e.breaks || not e.whole) ≡ wanting))
+
+-- what is shown of them: a text, of which nothing is said
+abbrev pub IsAllExplored : ℕ → ℕ → ℕ → List ℕ → Shown → Type 0
+IsAllExplored losses repeats states text (Text shown) = HasAllOutcomes losses repeats states text false
+IsAllExplored losses repeats states text (Wanting shown) = HasAllOutcomes losses repeats states text true
+IsAllExplored losses repeats states text shown = ⊥
 
 -- why no schedule is shown of the script that a text writes: a bad line, or one that threads don't take; memory is short, of one that threads take; or a schedule of such a one fills the journal
 abbrev pub IsExploreTextFault : Bool → List ℕ → Fault → Type 0

@@ -1,4 +1,5 @@
 use Rattle.std.proofs.Common.{Bool, subst, sym}
+use Rattle.std.specs.Prelude.{is_some}
 use Rattle.player.specs.code.Parts.{state_of}
 use Rattle.replay.specs.rule.Scripts.{GoesBehind}
 use Rattle.replay.proofs.calmed.play_behind.Goals as goal
@@ -6,4 +7,4 @@ use Rattle.replay.proofs.calmed.play_behind.Goals as goal
 pub returns-in_ok-played-clause-played : goal.returns-in_ok-played-clause-played
 returns-in_ok-played-clause-played g c =
     let made = c.in_ok-played.ensures.calm in
-    subst (λ (calm : Bool). GoesBehind calm c.args.journal c.args.script.lines (state_of c.in_ok-played.played)) (sym c.if-calm.true) (made.0, _, made.1, made.2)
+    subst (λ (calm : Bool). GoesBehind calm c.args.journal c.args.script.lines (state_of c.in_ok-played.played) (is_some c.refusal_of.result)) (sym c.if-calm.true) (made.0, _, made.1, made.2, c.refusal_of.ensures)

@@ -1,5 +1,5 @@
 use Rattle.std.proofs.Common.{ℕ, List, ap, inr, length, subst}
-use Rattle.std.specs.Prelude.{◌&&◌, string_bytes}
+use Rattle.std.specs.Prelude.{◌&&◌, ◌||◌, is_some, string_bytes}
 use Rattle.std.proofs.lemmas.Result.{err_from_is_err_and}
 use Rattle.std.proofs.lemmas.Str.{IsUtf8-string_bytes}
 use Rattle.explorer.specs.rule.Comparisons.{breaks_behind}
@@ -18,12 +18,22 @@ returns-clause-run g c =
     let is = subst (λ (s : ShapeFields). IsForShape s text script) c.shape.ensures.value read in
     let many = ap (λ (es : List EntryFields). length es) c.entries-earlier.ensures.value in
     let breaking = c.args.compares && breaks_behind text script.lines (length c.entries-earlier.result.now) state in
-    let same = ap (λ (n : ℕ). c.args.compares && breaks_behind text script.lines n state) many in
-    (breaking, (script, (text, c.in_ok-text.ensures.text, IsUtf8-string_bytes c.in_ok-text.text, (is, same)), c.in_ok-played.ensures.played), c.in_ok-told.ensures c.args.compares text script.lines c.in_ok-expecting.ensures)
+    let cut = is_some c.in_ok-played.cut in
+    let same = ap (λ (n : ℕ). cut || (c.args.compares && breaks_behind text script.lines n state)) many in
+    (cut || breaking, (script, cut, (text, c.in_ok-text.ensures.text, IsUtf8-string_bytes c.in_ok-text.text, (is, same)), c.in_ok-played.ensures.played), c.in_ok-told.ensures breaking (c.in_ok-compared.ensures c.args.compares text script.lines c.in_ok-expecting.ensures))
 
 pub returns-in_err-told-clause-fault : goal.returns-in_err-told-clause-fault
 returns-in_err-told-clause-fault g c =
     let p = err_from_is_err_and c.from_residual-in_err-told.result c.from_residual-in_err-told.ensures.1 in
+    let text = string_bytes c.in_ok-text.text in
+    let script = c.in_ok-script.script in
+    let read = subst (λ (t : List ℕ). IsForShape c.shape.result t script) c.as_str.ensures.value c.in_ok-script.ensures.script in
+    let is = subst (λ (s : ShapeFields). IsForShape s text script) c.shape.ensures.value read in
+    rw (p.1, p.2) (inr (script, (text, c.in_ok-text.ensures.text, IsUtf8-string_bytes c.in_ok-text.text, is)))
+
+pub returns-in_err-compared-clause-fault : goal.returns-in_err-compared-clause-fault
+returns-in_err-compared-clause-fault g c =
+    let p = err_from_is_err_and c.from_residual-in_err-compared.result c.from_residual-in_err-compared.ensures.1 in
     let text = string_bytes c.in_ok-text.text in
     let script = c.in_ok-script.script in
     let read = subst (λ (t : List ℕ). IsForShape c.shape.result t script) c.as_str.ensures.value c.in_ok-script.ensures.script in
