@@ -1,0 +1,5 @@
+use Rattle.merges.specs.code.Mergers.{Covers}
+use Rattle.merges.proofs.ends.Ends.least.Given as goal
+
+abbrev pub invariant-loop : goal.invariant-loop
+invariant-loop l = Covers l.fn.self l.logs → Covers l.self l.logs
