@@ -1,0 +1,3 @@
+pub mod Columns
+pub mod Sayings
+pub mod SeatLineKinds

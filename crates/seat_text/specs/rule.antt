@@ -1,0 +1,4 @@
+pub mod SeatLines
+pub mod Blocks
+pub mod Columns
+pub mod Speaking

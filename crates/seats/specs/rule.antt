@@ -1,0 +1,5 @@
+pub mod Distances
+pub mod Steps
+pub mod NodeSeats
+pub mod ServerSeats
+pub mod Parts

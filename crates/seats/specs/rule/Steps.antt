@@ -1,0 +1,38 @@
+-- What happens at a seat, and what it knows of members.
+use Rattle.std.specs.Prelude.{◌≡◌, ℕ, ◌==◌, ◌||◌, Bool, false, List, [], ◌∷◌, Option, Some, None, Result, Ok, Err}
+use Rattle.model.specs.declared.host.Host.{Host}
+use Rattle.messages.specs.declared.event.Event.{Event}
+use Rattle.messages.specs.declared.event.Event.TheVariants.{Member}
+use Rattle.messages.specs.declared.event.MemberEvent.{MemberEvent}
+use Rattle.messages.specs.declared.outcome.Outcome.{Outcome}
+use Rattle.messages.specs.declared.refusal.Refused.{Refused}
+use Rattle.messages.specs.declared.refusal.StepError.{StepError}
+use Rattle.messages.specs.rule.Refusals.{refused_by}
+use Rattle.members.specs.rule.Members.{MembersState, live_incarnation, was_declared}
+use Rattle.seats.specs.declared.order.Order.{Order}
+use Rattle.seats.specs.declared.seat_step.SeatStep.{SeatStep}
+
+abbrev pub step_of : Event → ℕ → Outcome → SeatStep
+step_of event incarnation o = record { event = event; incarnation = incarnation; outcome = o }
+
+-- a member changes
+abbrev pub of_member : MemberEvent → ℕ → Outcome → SeatStep
+of_member change incarnation o = step_of (Member change) incarnation o
+
+abbrev pub is_now : ℕ → Option ℕ → Bool
+is_now incarnation None = false
+is_now incarnation (Some live) = live == incarnation
+
+-- the node has begun in this incarnation, as the seat was told
+abbrev pub has_begun : MembersState → Host → Bool
+has_begun nodes h = was_declared nodes h.node h.incarnation || is_now h.incarnation (live_incarnation nodes h.node)
+
+-- one step of an actor, or why it is refused
+abbrev pub stepped : {S : Type 0} → Event → ℕ → Result (S × Outcome) StepError → Result (S × List SeatStep) Refused
+stepped event incarnation (Ok r) = Ok (r.0, step_of event incarnation r.1 ∷ [])
+stepped event incarnation (Err e) = Err (refused_by e)
+
+-- by its rule one does this as it is told, and is then that: it is as it was where it is refused
+abbrev pub Does : {S : Type 0} → (S → Order → Result (S × List SeatStep) Refused) → S → Order → Result (List SeatStep) Refused → S → Type 0
+Does rule a order (Ok steps) b = rule a order ≡ Ok (b, steps)
+Does rule a order (Err e) b = (rule a order ≡ Err e) × (b ≡ a)

@@ -1,0 +1,20 @@
+//! Which incarnations have begun.
+ghost use Rattle.std.specs.Prelude.{◌≡◌};
+ghost use Rattle.members.specs.rule.Parts.{members_state};
+ghost use Rattle.seats.specs.rule.Steps.{has_begun};
+
+use members::members::Members;
+use model::host::Host;
+
+/// Whether the node has begun in this incarnation.
+pub(crate) fn has_begun(members: &Members, host: Host) -> bool
+    ensures { result ≡ has_begun (members_state members.now.nodes) host }
+{
+    if members.declared(host.node, host.incarnation) {
+        return true;
+    }
+    match members.alive(host.node) {
+        Some(live) => live == host.incarnation,
+        None => false,
+    }
+}
