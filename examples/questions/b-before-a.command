@@ -1,1 +1,1 @@
-explore SCRIPT --seeds 20
+explore SCRIPT --all

@@ -44,7 +44,8 @@ def locks_in(nodes, actor):
 
 
 def columns_wanted(count, entries, size):
-    """What the columns of an overview tell, of so many entries each, and where their boxes begin, if they have any; and where lines across stand."""
+    """What the columns of an overview tell, of so many entries each, where their boxes begin, and whether one marks a failure; and where lines
+    across stand."""
     model, titles, rules = Nodes(count), [], []
     actors = [f"node {node}" for node in range(1, count + 1)] + ["server 1", "server 2"]
     for first in range(1, len(entries) + 1, size):
@@ -61,8 +62,7 @@ def columns_wanted(count, entries, size):
             locks = locks_in(model, actor)
             if calls or received or sent or failures or locks:
                 told = f"calls {calls}, sent {sent}, received {received}, failures and starts {failures}, locks {locks}"
-                has_box = calls or received or sent or locks
-                titles.append((f"{actor}, entries {first} to {first + len(part) - 1}: {told}", left if has_box else None))
+                titles.append((f"{actor}, entries {first} to {first + len(part) - 1}: {told}", left, failures > 0))
     return collections.Counter(titles), rules
 
 
@@ -70,6 +70,11 @@ def left_of(group):
     """Where the boxes of a row in a column begin; None where there are none."""
     lefts = {int(box.get("x")) for box in group.iter(SVG + "rect")}
     return lefts.pop() if lefts else None
+
+
+def is_marked(group):
+    """Whether a box marks a failure or a start."""
+    return any(box.get("class") == "rule-name" for box in group.iter(SVG + "rect"))
 
 
 def judge_overview(program, folder):
@@ -86,7 +91,7 @@ def judge_overview(program, folder):
         return [f"the overview of {len(entries)} entries: {drawn.returncode} {drawn.stderr}"]
     root = tree.fromstring(drawn.stdout)
     groups = [group for group in root.iter(SVG + "g") if group.find(SVG + "title") is not None]
-    given = collections.Counter((group.find(SVG + "title").text, left_of(group)) for group in groups)
+    given = collections.Counter((group.find(SVG + "title").text, left_of(group), is_marked(group)) for group in groups)
     wanted, rules = columns_wanted(count, entries, size)
     faults = [f"the overview: {title}" for title in given - wanted] + [f"the overview has no {title}" for title in wanted - given]
     lines = [line for line in root.iter(SVG + "line") if line.get("class") == "rule"]

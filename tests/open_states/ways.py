@@ -17,7 +17,7 @@ def numbers_of(host):
 
 class Way:
     """The way of a call: whether it is open, the server of its file, the nodes on which it depends, and the reports that the server awaits; of
-    both none whose failure the server knows."""
+    both none whose failure the server knows. Also the nodes that are sent a revoke for it in any entry, up to its end."""
 
     def __init__(self, call, named, entries):
         self.call = call
@@ -27,6 +27,12 @@ class Way:
         self.is_open = False
         self.hosts = []
         self.awaited = []
+        self.holders = {holder for entry in entries for holder in self.revoked(entry)}
+
+    def revoked(self, entry):
+        """The nodes to which an entry sends a revoke for the call."""
+        revokes = [message.split(" ") for _, message in entry.sends if message.startswith("revoke ") and self.named(message) == self.call]
+        return [next(word for word in words[2:] if HOST.fullmatch(word)) for words in revokes]
 
     def has(self, message):
         """Whether a message is one of the story: it names the call, or tells of another node's locks."""
@@ -67,7 +73,9 @@ class Way:
         return [host for host in self.on_the_way() if self.is_open and self.knows(entry, host)]
 
     def is_changed_by(self, entry):
-        """Whether the server or a node of an open call fails or begins again, or the server hears of it."""
+        """Whether the server or a node of an open call fails or begins again, or the server hears of it; or a node that is sent a revoke fails."""
+        if entry.words[0] == "declare" and entry.words[1] in self.holders:
+            return True
         if not self.is_open:
             return False
         if self.of_server(entry, "fail-server", "start-server") or self.heard(entry):
@@ -81,14 +89,12 @@ class Way:
         """An entry happens."""
         if entry.made() == self.call:
             self.is_open, self.hosts = True, [host_of(self.call)]
+        was_open = self.is_open
         if entry.answered == self.call or self.knows(entry, host_of(self.call)):
             self.is_open = False
+            self.holders = set() if was_open else self.holders
         self.hosts = [host for host in self.hosts if not self.knows(entry, host)]
-        for _, message in entry.sends:
-            words = message.split(" ")
-            holder = next((word for word in words[2:] if HOST.fullmatch(word)), None)
-            if words[0] == "revoke" and self.named(message) == self.call and holder not in self.hosts:
-                self.hosts.append(holder)
+        self.hosts += [holder for holder in dict.fromkeys(self.revoked(entry)) if holder not in self.hosts]
         self.take_reports(entry)
 
     def take_reports(self, entry):
