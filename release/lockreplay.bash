@@ -107,7 +107,10 @@ _lockreplay() {
         case $before in
         --seeds) : ;;
         --first) : ;;
-        *) _lockreplay_rest 1 1 '--seeds --first' '' '--seeds --first --failures --json -h --help'
+        --losses) : ;;
+        --repeats) : ;;
+        --states) : ;;
+        *) _lockreplay_rest 1 1 '--seeds --first --losses --repeats --states' '' '--seeds --first --failures --json --all --losses --repeats --states -h --help'
         esac
         ;;
     schedule)

@@ -116,11 +116,15 @@ complete -c lockreplay -n '__lockreplay_is from-strace' -l place -x -d 'Place re
 complete -c lockreplay -n '__lockreplay_is from-strace' -l history -d 'Make a history of clients, for '\''lockreplay judge'\'''
 complete -c lockreplay -n '__lockreplay_is from-strace' -s h -l help -d 'Print help'
 
-complete -c lockreplay -n '__lockreplay_file explore 1 --seeds --first' -F
+complete -c lockreplay -n '__lockreplay_file explore 1 --seeds --first --losses --repeats --states' -F
 complete -c lockreplay -n '__lockreplay_is explore' -l seeds -x -d 'How many schedules, up to 4294967295'
 complete -c lockreplay -n '__lockreplay_is explore' -l first -x -d 'The seed of the first schedule, up to 4294967295'
 complete -c lockreplay -n '__lockreplay_is explore' -l failures -d 'Let nodes and servers fail'
 complete -c lockreplay -n '__lockreplay_is explore' -l json -d 'Print the text as JSON'
+complete -c lockreplay -n '__lockreplay_is explore' -l all -d 'Go through every schedule, instead of those of seeds'
+complete -c lockreplay -n '__lockreplay_is explore' -l losses -x -d 'With --all: how many messages may be lost'
+complete -c lockreplay -n '__lockreplay_is explore' -l repeats -x -d 'With --all: how often messages may come again'
+complete -c lockreplay -n '__lockreplay_is explore' -l states -x -d 'With --all: after how many states to give up'
 complete -c lockreplay -n '__lockreplay_is explore' -s h -l help -d 'Print help'
 
 complete -c lockreplay -n '__lockreplay_file schedule 1 --seed' -F
