@@ -15,11 +15,11 @@ use messages::actor::Actor;
 use messages::event::Event;
 use messages::outcome::Outcome;
 use messages::refusal::StepError;
-use node_core::change::Change as NodeChange;
+use node_core::change::NodeChange;
 use node_core::event::NodeEvent;
 use node_core::node::Node;
 use std::alloc::Global;
-use token_server::change::Change as ServerChange;
+use token_server::change::ServerChange;
 use token_server::event::ServerEvent;
 use token_server::server::Server;
 

@@ -25,7 +25,6 @@ pub mod FirstTaken
 pub mod Silent
 pub mod Leaving
 pub mod Request
-pub mod Commands
 pub mod Granted
 pub mod DenialSteps
 pub mod Denied

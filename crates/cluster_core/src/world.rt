@@ -1,27 +1,17 @@
 //! The world: the state of every actor of a cluster, and its step at an event.
-ghost use Rattle.std.specs.Prelude.{◌≡◌, ◌≢◌, ◌<◌, true, false, Ok, Err, ◌++◌, ◌∷◌, [], IfOk, IfErr, OnOk, OnErr, length, ◌-◌, slice_index_or};
+ghost use Rattle.std.specs.Prelude.{◌≡◌, ◌≢◌, ◌<◌, true, Ok, Err, ◌++◌, ◌∷◌, [], IfOk, IfErr, OnOk, OnErr, length, ◌-◌};
 ghost use Rattle.messages.specs.declared.refusal.Refused.TheVariants.{NoMemory};
-ghost use Rattle.messages.specs.declared.refusal.StepError.TheVariants.{NoMemory as OutOfMemory};
 ghost use Rattle.messages.specs.rule.Messages.{addressee, is_among, is_within};
-ghost use Rattle.messages.specs.code.Entries.{NamesItsIncarnation};
 ghost use Rattle.messages.specs.rule.Shapes.{IsShape, most_files};
 ghost use Rattle.model.specs.rule.Limits.{IsNumber, most_nodes};
-ghost use Rattle.node_core.specs.rule.Calls.{is_in_shape};
-ghost use Rattle.node_core.specs.rule.Node.{node_rule};
-ghost use Rattle.node_core.specs.rule.Parts.{NodeParts, node_state};
-ghost use Rattle.node_core.specs.code.Plans.{Fits, planned as reached};
-ghost use Rattle.token_server.specs.rule.Server.{server_rule};
-ghost use Rattle.token_server.specs.rule.Parts.{ServerParts, server_state};
-ghost use Rattle.token_server.specs.code.Edits.{planned, Fits as ServerFits};
-ghost use Rattle.cluster_core.specs.rule.World.{WorldState, journal_limit, was_declared, first_world};
-ghost use Rattle.cluster_core.specs.rule.Next.{fits_shape, is_true, has_member, is_known, is_fenced, is_stopped, has_actor, declare_rule, restart_rule, member_rule, named_incarnation, delivered, taken, next, kept_next};
+ghost use Rattle.node_core.specs.rule.Parts.{node_state};
+ghost use Rattle.token_server.specs.rule.Parts.{server_state};
+ghost use Rattle.cluster_core.specs.rule.World.{WorldState, journal_limit, first_world};
+ghost use Rattle.cluster_core.specs.rule.Next.{is_known, is_fenced, is_stopped, has_actor, declare_rule, restart_rule, next, kept_next};
 ghost use Rattle.cluster_core.specs.rule.Parts.{world_state, IsRest};
-ghost use Rattle.cluster_core.specs.code.Changes.{IsNodeChange, IsServerChange, IsRestart, Makes, Plans};
-ghost use Rattle.messages.specs.declared.actor.Actor.TheVariants.{Node as ANode, Server as AServer};
-ghost use Rattle.messages.specs.declared.event.Event.TheVariants.{AtNode, AtServer, Deliver, Member};
+ghost use Rattle.cluster_core.specs.code.Changes.{IsNodeChange, IsServerChange, IsRestart, Plans};
+ghost use Rattle.messages.specs.declared.event.Event.TheVariants.{Deliver, Member};
 ghost use Rattle.messages.specs.declared.event.MemberEvent.TheVariants.{Declare, Restart};
-ghost use Rattle.node_core.specs.declared.event.NodeEvent.TheVariants as own;
-ghost use Rattle.token_server.specs.declared.event.ServerEvent.TheVariants as served;
 ghost use Rattle.messages.specs.declared.refusal.Refused.{Refused};
 ghost use Rattle.cluster_core.specs.rule.Runs.{Leads};
 ghost use Rattle.cluster_core.specs.rule.Safe.{IsSafe};
@@ -32,29 +22,26 @@ use crate::journal::Journal;
 use crate::sent::Sent;
 use crate::world::world_change::WorldChange;
 use members::members::Members;
-use messages::actor::Actor;
 use messages::entry::Entry;
-use messages::event::{Event, MemberEvent, NodeInput, ServerInput};
+use messages::event::{Event, MemberEvent};
 use messages::items::Items;
 use messages::kept_outcome::KeptOutcome;
 use messages::kept_reply::KeptReply;
 use messages::message::Message;
 use messages::outcome::Outcome;
-use messages::refusal::{Refused, StepError};
+use messages::refusal::Refused;
 use messages::shape::Shape;
 use messages::shared_message::SharedMessage;
-use model::limits::MOST_PROCESSES;
-use model::op::{Op, ProcessCall};
-use node_core::change::Change as NodeChange;
-use node_core::event::NodeEvent;
+use node_core::change::NodeChange;
 use node_core::node::Node;
 use std::alloc::{AllocError, Global};
 use std::marker::Model;
-use token_server::change::Change as ServerChange;
-use token_server::event::ServerEvent;
+use token_server::change::ServerChange;
 use token_server::server::Server;
 
+mod events;
 mod listings;
+mod plans;
 mod servers;
 mod states;
 pub(crate) mod world_change;
@@ -81,24 +68,6 @@ impl Model for World {
     ghost view = { λ w. record { shape = w.shape; nodes = w.nodes.items; members = w.members; servers = w.servers.items; sent = w.sent; length = w.length } };
 
     ghost invariant = { λ w. IsWorld (record { shape = w.shape; nodes = w.nodes.items; members = w.members; servers = w.servers.items; sent = w.sent; length = w.length }) };
-}
-
-// Whether the number is from 1 to `most`.
-fn is_number(most: u16, number: u16) -> bool
-    ensures { result ≡ is_within most number }
-{
-    1 <= number && number <= most
-}
-
-// Whether the file and the process that the operation names are within the shape's limits.
-fn is_of_shape(shape: Shape, op: &Op) -> bool
-    ensures { result ≡ is_in_shape shape op.now }
-{
-    match op {
-        Op::Process(ProcessCall::Open { file, .. }) => is_number(shape.files(), *file),
-        Op::Process(ProcessCall::Fork { child }) => is_number(MOST_PROCESSES, *child),
-        _ => true,
-    }
 }
 
 // The nodes of a cluster that begins.
@@ -172,338 +141,6 @@ impl World {
         ensures { result ≡ self.now.shape }
     {
         self.shape
-    }
-
-    // Whether the cluster has the actor.
-    fn has_actor(&self, actor: &Actor) -> bool
-        ensures { result ≡ has_actor (world_state self.now) actor.now }
-    {
-        match actor {
-            Actor::Node(node) => is_number(self.shape.nodes() as u16, *node as u16),
-            Actor::Server(file) => is_number(self.shape.files(), *file),
-        }
-    }
-
-    // Whether what comes to a node names processes and files of the shape.
-    fn fits_shape(&self, input: &NodeInput) -> bool
-        ensures { result ≡ fits_shape self.now.shape input.now }
-    {
-        match input {
-            NodeInput::Call { pid, op } => is_number(256, *pid) && is_of_shape(self.shape, op),
-            NodeInput::Interrupt { pid } => is_number(256, *pid),
-            NodeInput::Retry { pid } => is_number(256, *pid),
-        }
-    }
-
-    // Whether what comes to a token server tells only of incarnations that were declared failed.
-    fn is_true(&self, input: &ServerInput) -> bool
-        ensures { result ≡ is_true (world_state self.now) input.now }
-    {
-        match input {
-            ServerInput::Resend => true,
-            ServerInput::Learn { node, incarnation } => {
-                is_number(self.shape.nodes() as u16, *node as u16)
-                    && self.was_declared(*node, *incarnation)
-            }
-        }
-    }
-
-    // Whether the cluster has the member, and a server may fail in its version.
-    fn has_member(&self, event: &MemberEvent) -> bool
-        ensures { result ≡ has_member (world_state self.now) event.now }
-    {
-        match event {
-            MemberEvent::Declare { node } | MemberEvent::Restart { node } => {
-                is_number(self.shape.nodes() as u16, *node as u16)
-            }
-            MemberEvent::FailServer { file } | MemberEvent::StartServer { file } => {
-                self.shape.version().may_rebuild() && is_number(self.shape.files(), *file)
-            }
-        }
-    }
-
-    // Whether the event names only what the cluster has.
-    fn is_known(&self, event: &Event) -> bool
-        ensures { result ≡ is_known (world_state self.now) event.now }
-    {
-        match event {
-            Event::AtNode(node, input) => {
-                is_number(self.shape.nodes() as u16, *node as u16) && self.fits_shape(input)
-            }
-            Event::AtServer(file, input) => {
-                is_number(self.shape.files(), *file) && self.is_true(input)
-            }
-            Event::Deliver(message) => {
-                let message = message.get();
-                self.has_actor(&message.addressee()) && self.sent.contains(message)
-            }
-            Event::Member(change) => self.has_member(change),
-        }
-    }
-
-    // Whether the node is alive.
-    fn is_alive(&self, node: u8) -> bool
-        requires { is_within self.now.shape.nodes node ≡ true }
-        ensures { result ≡ (world_state self.now).alive node }
-    {
-        self.members.alive(node).is_some()
-    }
-
-    // Whether that incarnation of the node was declared failed.
-    fn was_declared(&self, node: u8, incarnation: u16) -> bool
-        requires { is_within self.now.shape.nodes node ≡ true }
-        ensures { result ≡ was_declared (world_state self.now) node incarnation }
-    {
-        self.members.declared(node, incarnation)
-    }
-
-    // Whether the actor was declared failed and is not started again.
-    fn is_stopped(&self, actor: &Actor) -> bool
-        requires { has_actor (world_state self.now) actor.now ≡ true }
-        ensures { result ≡ is_stopped (world_state self.now) actor.now }
-    {
-        match actor {
-            Actor::Node(node) => !self.is_alive(*node),
-            Actor::Server(file) => !self.works(*file),
-        }
-    }
-
-    // Whether the event would be a step of an actor that was declared failed.
-    fn is_fenced(&self, event: &Event) -> bool
-        requires { is_known (world_state self.now) event.now ≡ true }
-        ensures { result ≡ is_fenced (world_state self.now) event.now }
-    {
-        match event {
-            Event::AtNode(node, _) => !self.is_alive(*node),
-            Event::AtServer(file, _) => !self.works(*file),
-            Event::Deliver(message) => self.is_stopped(&message.get().addressee()),
-            Event::Member(_) => false,
-        }
-    }
-
-    // The node with that number.
-    fn node(&self, node: u8) -> &Node
-        requires node { is_within self.now.shape.nodes node ≡ true }
-        requires alive { (world_state self.now).alive node ≡ true }
-        ensures { node_state result.now ≡ (world_state self.now).nodes node }
-    {
-        &self.nodes[node as usize - 1]
-    }
-
-    // The incarnation that the entry of what comes to the node names, or 0.
-    fn named_incarnation(&self, node: u8, input: &NodeInput) -> u16
-        requires node { is_within self.now.shape.nodes node ≡ true }
-        requires alive { (world_state self.now).alive node ≡ true }
-        ensures value { result ≡ named_incarnation ((world_state self.now).nodes node) (AtNode node input.now) }
-        ensures incarnated { NamesItsIncarnation (AtNode node input.now) result }
-    {
-        match input {
-            NodeInput::Call { .. } => 0,
-            NodeInput::Interrupt { .. } => self.node(node).incarnation(),
-            NodeInput::Retry { .. } => self.node(node).incarnation(),
-        }
-    }
-
-    // The planned step of the node at an event.
-    fn node_plan(&self, alloc: Global, node: u8, step: &NodeEvent) -> Result<NodeChange, StepError>
-        requires node { is_within self.now.shape.nodes node ≡ true }
-        requires alive { (world_state self.now).alive node ≡ true }
-        ensures ok { IfOk result (λ change. (p : NodeParts) × (p ≡ slice_index_or self.now.nodes (node - 1) p) × Fits p change.edit × (node_rule ((world_state self.now).nodes node) step.now ≡ Ok (reached p change.edit, change.outcome))) }
-        ensures err { IfErr result (λ e. e ≢ OutOfMemory → node_rule ((world_state self.now).nodes node) step.now ≡ Err e) }
-        ensures refused { (r : StepError) → node_rule ((world_state self.now).nodes node) step.now ≡ Err r → result ≡ Err r }
-    {
-        self.nodes[node as usize - 1].plan(alloc, step)
-    }
-
-    // The planned step of the token server at an event.
-    fn server_plan(
-        &self,
-        alloc: Global,
-        file: u16,
-        step: &ServerEvent,
-    ) -> Result<ServerChange, StepError>
-        requires { is_within self.now.shape.files file ≡ true }
-        ensures ok { IfOk result (λ change. (p : ServerParts) × (p ≡ slice_index_or self.now.servers (file - 1) p) × ServerFits p change.edit × (server_rule ((world_state self.now).servers file) step.now ≡ Ok (planned p change.edit, change.outcome))) }
-        ensures err { IfErr result (λ e. e ≢ OutOfMemory → server_rule ((world_state self.now).servers file) step.now ≡ Err e) }
-        ensures refused { (r : StepError) → r ≢ StepError.Spent → server_rule ((world_state self.now).servers file) step.now ≡ Err r → result ≡ Err r }
-    {
-        self.servers[file as usize - 1].plan(alloc, step)
-    }
-
-    // The planned step of the node at the delivery of the message.
-    fn node_delivery(
-        &self,
-        alloc: Global,
-        node: u8,
-        message: &Message,
-    ) -> Result<NodeChange, StepError>
-        requires node { is_within self.now.shape.nodes node ≡ true }
-        requires alive { (world_state self.now).alive node ≡ true }
-        ensures ok { IfOk result (λ change. (p : NodeParts) × (p ≡ slice_index_or self.now.nodes (node - 1) p) × Fits p change.edit × (node_rule ((world_state self.now).nodes node) (own.Deliver message.now) ≡ Ok (reached p change.edit, change.outcome))) }
-        ensures err { IfErr result (λ e. e ≢ OutOfMemory → node_rule ((world_state self.now).nodes node) (own.Deliver message.now) ≡ Err e) }
-        ensures refused { (r : StepError) → node_rule ((world_state self.now).nodes node) (own.Deliver message.now) ≡ Err r → result ≡ Err r }
-    {
-        self.nodes[node as usize - 1].plan_delivery(alloc, message)
-    }
-
-    // The planned step of the token server at the delivery of the message.
-    fn server_delivery(
-        &self,
-        alloc: Global,
-        file: u16,
-        message: &Message,
-    ) -> Result<ServerChange, StepError>
-        requires { is_within self.now.shape.files file ≡ true }
-        ensures ok { IfOk result (λ change. (p : ServerParts) × (p ≡ slice_index_or self.now.servers (file - 1) p) × ServerFits p change.edit × (server_rule ((world_state self.now).servers file) (served.Deliver message.now) ≡ Ok (planned p change.edit, change.outcome))) }
-        ensures err { IfErr result (λ e. e ≢ OutOfMemory → server_rule ((world_state self.now).servers file) (served.Deliver message.now) ≡ Err e) }
-        ensures refused { (r : StepError) → r ≢ StepError.Spent → server_rule ((world_state self.now).servers file) (served.Deliver message.now) ≡ Err r → result ≡ Err r }
-    {
-        self.servers[file as usize - 1].plan_delivery(alloc, message)
-    }
-
-    // The change that what comes to the node makes.
-    fn plan_node(&self, alloc: Global, node: u8, input: &NodeInput) -> Result<WorldChange, Refused>
-        requires node { is_within self.now.shape.nodes node ≡ true }
-        requires alive { (world_state self.now).alive node ≡ true }
-        ensures ok { IfOk result (λ change. Makes self.now (AtNode node input.now) change (taken (world_state self.now) (AtNode node input.now))) }
-        ensures err { IfErr result (λ e. e ≢ NoMemory → taken (world_state self.now) (AtNode node input.now) ≡ Err e) }
-        ensures refused { (e : Refused) → taken (world_state self.now) (AtNode node input.now) ≡ Err e → result ≡ Err e }
-    {
-        let incarnation = self.named_incarnation(node, input);
-        let change = self.node_plan(alloc, node, &NodeEvent::Input(*input))?;
-        let boxed = Box::new(alloc, change)?;
-        Ok(WorldChange::OfNode {
-            node,
-            incarnation,
-            change: boxed,
-        })
-    }
-
-    // The change that what comes to the token server makes.
-    fn plan_server(
-        &self,
-        alloc: Global,
-        file: u16,
-        input: &ServerInput,
-    ) -> Result<WorldChange, Refused>
-        requires { is_within self.now.shape.files file ≡ true }
-        ensures ok { IfOk result (λ change. Makes self.now (AtServer file input.now) change (taken (world_state self.now) (AtServer file input.now))) }
-        ensures err { IfErr result (λ e. e ≢ NoMemory → taken (world_state self.now) (AtServer file input.now) ≡ Err e) }
-        ensures refused { (e : Refused) → e ≢ Refused.Spent → taken (world_state self.now) (AtServer file input.now) ≡ Err e → result ≡ Err e }
-    {
-        let change = self.server_plan(alloc, file, &ServerEvent::Input(*input))?;
-        Ok(WorldChange::OfServer { file, change })
-    }
-
-    // The change that the delivery of the message to the node makes.
-    fn plan_node_delivery(
-        &self,
-        alloc: Global,
-        node: u8,
-        message: &Message,
-    ) -> Result<WorldChange, Refused>
-        requires node { is_within self.now.shape.nodes node ≡ true }
-        requires alive { (world_state self.now).alive node ≡ true }
-        requires to { addressee message.now ≡ ANode node }
-        ensures ok { IfOk result (λ change. Makes self.now (Deliver message.now) change (delivered (world_state self.now) message.now (ANode node))) }
-        ensures err { IfErr result (λ e. e ≢ NoMemory → delivered (world_state self.now) message.now (ANode node) ≡ Err e) }
-        ensures refused { (e : Refused) → delivered (world_state self.now) message.now (ANode node) ≡ Err e → result ≡ Err e }
-    {
-        let change = self.node_delivery(alloc, node, message)?;
-        let boxed = Box::new(alloc, change)?;
-        Ok(WorldChange::OfNode {
-            node,
-            incarnation: 0,
-            change: boxed,
-        })
-    }
-
-    // The change that the delivery of the message to the token server makes.
-    fn plan_server_delivery(
-        &self,
-        alloc: Global,
-        file: u16,
-        message: &Message,
-    ) -> Result<WorldChange, Refused>
-        requires file { is_within self.now.shape.files file ≡ true }
-        requires to { addressee message.now ≡ AServer file }
-        ensures ok { IfOk result (λ change. Makes self.now (Deliver message.now) change (delivered (world_state self.now) message.now (AServer file))) }
-        ensures err { IfErr result (λ e. e ≢ NoMemory → delivered (world_state self.now) message.now (AServer file) ≡ Err e) }
-        ensures refused { (e : Refused) → e ≢ Refused.Spent → delivered (world_state self.now) message.now (AServer file) ≡ Err e → result ≡ Err e }
-    {
-        let change = self.server_delivery(alloc, file, message)?;
-        Ok(WorldChange::OfServer { file, change })
-    }
-
-    // The change that the delivery of the message to its addressee makes.
-    fn plan_delivery(&self, alloc: Global, message: &Message) -> Result<WorldChange, Refused>
-        requires known { has_actor (world_state self.now) (addressee message.now) ≡ true }
-        requires free { is_stopped (world_state self.now) (addressee message.now) ≡ false }
-        ensures ok { IfOk result (λ change. Makes self.now (Deliver message.now) change (taken (world_state self.now) (Deliver message.now))) }
-        ensures err { IfErr result (λ e. e ≢ NoMemory → taken (world_state self.now) (Deliver message.now) ≡ Err e) }
-        ensures refused { (e : Refused) → e ≢ Refused.Spent → taken (world_state self.now) (Deliver message.now) ≡ Err e → result ≡ Err e }
-    {
-        match message.addressee() {
-            Actor::Node(node) => self.plan_node_delivery(alloc, node, message),
-            Actor::Server(file) => self.plan_server_delivery(alloc, file, message),
-        }
-    }
-
-    // The change by which the node is declared failed, or the refusal.
-    fn plan_declare(&self, node: u8) -> Result<WorldChange, Refused>
-        requires { is_within self.now.shape.nodes node ≡ true }
-        ensures ok { IfOk result (λ change. Makes self.now (Member (Declare node)) change (declare_rule (world_state self.now) node)) }
-        ensures err { IfErr result (λ e. declare_rule (world_state self.now) node ≡ Err e) }
-        ensures refused { (e : Refused) → declare_rule (world_state self.now) node ≡ Err e → result ≡ Err e }
-    {
-        if !self.is_alive(node) {
-            return Err(Refused::NotAlive);
-        }
-        Ok(WorldChange::Declared { node })
-    }
-
-    // The change by which the node restarts, or the refusal.
-    fn plan_restart(&self, alloc: Global, node: u8) -> Result<WorldChange, Refused>
-        requires { is_within self.now.shape.nodes node ≡ true }
-        ensures ok { IfOk result (λ change. Makes self.now (Member (Restart node)) change (restart_rule (world_state self.now) node)) }
-        ensures err { IfErr result (λ e. e ≢ NoMemory → restart_rule (world_state self.now) node ≡ Err e) }
-        ensures refused { (e : Refused) → restart_rule (world_state self.now) node ≡ Err e → result ≡ Err e }
-    {
-        let incarnation = self.members.next(node)?;
-        let first = Node::new(alloc, self.shape, node, incarnation)?;
-        let begun = Box::new(alloc, first)?;
-        Ok(WorldChange::Restarted { node, begun })
-    }
-
-    // The change by which a member is declared failed or begins again, or the refusal.
-    fn plan_member(&self, alloc: Global, event: &MemberEvent) -> Result<WorldChange, Refused>
-        requires { has_member (world_state self.now) event.now ≡ true }
-        ensures ok { IfOk result (λ change. Makes self.now (Member event.now) change (member_rule (world_state self.now) event.now)) }
-        ensures err { IfErr result (λ e. e ≢ NoMemory → member_rule (world_state self.now) event.now ≡ Err e) }
-        ensures refused { (e : Refused) → member_rule (world_state self.now) event.now ≡ Err e → result ≡ Err e }
-    {
-        match event {
-            MemberEvent::Declare { node } => self.plan_declare(*node),
-            MemberEvent::Restart { node } => self.plan_restart(alloc, *node),
-            MemberEvent::FailServer { file } => self.plan_failure(*file),
-            MemberEvent::StartServer { file } => self.plan_start(alloc, *file),
-        }
-    }
-
-    // The change that the event makes, whichever actor takes it.
-    fn plan_taken(&self, alloc: Global, event: &Event) -> Result<WorldChange, Refused>
-        requires known { is_known (world_state self.now) event.now ≡ true }
-        requires free { is_fenced (world_state self.now) event.now ≡ false }
-        ensures ok { IfOk result (λ change. Makes self.now event.now change (taken (world_state self.now) event.now)) }
-        ensures err { IfErr result (λ e. e ≢ NoMemory → taken (world_state self.now) event.now ≡ Err e) }
-        ensures refused { (e : Refused) → e ≢ Refused.Spent → taken (world_state self.now) event.now ≡ Err e → result ≡ Err e }
-    {
-        match event {
-            Event::AtNode(node, input) => self.plan_node(alloc, *node, input),
-            Event::AtServer(file, input) => self.plan_server(alloc, *file, input),
-            Event::Deliver(message) => self.plan_delivery(alloc, message.get()),
-            Event::Member(change) => self.plan_member(alloc, change),
-        }
     }
 
     /// The change that the event makes: the step of the one actor that takes it.

@@ -17,10 +17,6 @@ use Rattle.descriptors.specs.code.Rows.{slot, idle, row, processes, IsSameRow, A
 pub some_passes-zero : (passes : ℕ → Bool) (lo : ℕ) → some_passes passes lo 0 ≡ false
 some_passes-zero passes lo = some_passes-none passes lo 0 lo (failed-start passes lo) (omega arith)
 
-or_false : (a : Bool) → a ≡ (a || false)
-or_false true = refl
-or_false false = refl
-
 -- of one more number, one passes if one of the others does or the last does
 pub some_passes-more : (passes : ℕ → Bool) (lo n : ℕ) → some_passes passes lo (n + 1) ≡ (some_passes passes lo n || passes (lo + n))
 some_passes-more passes lo n = elim (cases_Bool (some_passes passes lo n)) [

@@ -13,12 +13,23 @@ use crate::error::{FdError, ProcessError};
 use crate::process_entry::{ProcessEntry, is_of_file};
 use crate::rows::{copy_row, grown, is_idle, is_running, opened_at, refer, reset, same_rows};
 use model::access::Access;
-use model::limits::MOST_DESCRIPTORS;
+use model::limits::{MOST_DESCRIPTORS, MOST_PROCESSES};
 use model::op::ProcessCall;
 use model::opened::Opened;
 use model::reply::Reply;
 use std::alloc::{AllocError, Global};
 use std::marker::Model;
+
+// The number of the last place, where there were `places` of them and the process needs one more:
+// half as many again as there were, so that places are seldom added, but none past the last process.
+fn last_place(places: usize, pid: u16) -> usize
+    ensures least { pid ≤ result }
+    ensures number { result < 65536 }
+{
+    let most = MOST_PROCESSES as usize;
+    let more = places.min(most) / 2 * 3;
+    more.min(most).max(pid as usize)
+}
 
 /// The processes of one node in one incarnation, and what each of their descriptors refers to.
 /// Processes are numbered from 1 to 256, descriptors from 0 to 63, open file descriptions from 1 to
@@ -107,8 +118,9 @@ impl Processes {
         if (pid as usize) < self.rows.len() {
             return Ok(None);
         }
-        let rows = grown(&self.rows, pid as usize)?;
-        let counts = self.counts.grown(64 * (pid as usize + 1))?;
+        let last = last_place(self.rows.len(), pid);
+        let rows = grown(&self.rows, last)?;
+        let counts = self.counts.grown(64 * (last + 1))?;
         Ok(Some(Processes { rows, counts }))
     }
 

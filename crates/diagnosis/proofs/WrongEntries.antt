@@ -18,8 +18,8 @@ use Rattle.cluster_core.proofs.runs.JournalRuns.{leads_read}
 use Rattle.cluster_core.proofs.runs.Replayed.{replayed_count}
 use Rattle.cluster_core.proofs.steps.Steps.{kept_of, kept_taken}
 use Rattle.diagnosis.specs.code.OtherEntries.{IsOther}
-use Rattle.diagnosis.specs.declared.wrong_entry.Made.{Made}
-use Rattle.diagnosis.specs.declared.wrong_entry.Made.TheVariants.{Refused as Refuses, Other}
+use Rattle.diagnosis.specs.declared.wrong_entry.MadeInstead.{MadeInstead}
+use Rattle.diagnosis.specs.declared.wrong_entry.MadeInstead.TheVariants.{Refused as Refuses, Other}
 use Rattle.diagnosis.specs.declared.wrong_entry.WrongEntry.{WrongEntry}
 use Rattle.diagnosis.specs.rule.WrongEntries.{DifferIn, IsMade, IsWhyNoRun, line_behind, line_count}
 
@@ -72,14 +72,14 @@ why shape es i w line wrong within is position same made passed =
     }
 
 -- the entry that the event makes is the one that was found
-pub made-next : (w v : WorldState) (event : Event) (made found : Entry) (other : Option Made) → w.length < journal_limit → event ≡ found.event → next w event ≡ Ok (v, made) → MatchOption other (made ≡ found) (IsOther made found)
+pub made-next : (w v : WorldState) (event : Event) (made found : Entry) (other : Option MadeInstead) → w.length < journal_limit → event ≡ found.event → next w event ≡ Ok (v, made) → MatchOption other (made ≡ found) (IsOther made found)
     → other ≡ None → kept_next w found.event ≡ Ok (v, found)
 made-next w v event made found None room of step same none =
     ap (kept_next w) (sym of) ∙ kept_of w event (Ok (v, made)) room step ∙ ap (λ (e : Entry). Ok (v, e)) same
 made-next w v event made found (Some other) room of step is none = absurd (cc)
 
 -- it is another one
-pub made-other : (w v : WorldState) (event : Event) (made found : Entry) (other : Option Made) → w.length < journal_limit → event ≡ found.event → next w event ≡ Ok (v, made) → MatchOption other (made ≡ found) (IsOther made found)
+pub made-other : (w v : WorldState) (event : Event) (made found : Entry) (other : Option MadeInstead) → w.length < journal_limit → event ≡ found.event → next w event ≡ Ok (v, made) → MatchOption other (made ≡ found) (IsOther made found)
     → IfSome other (IsMade w found)
 made-other w v event made found None room of step same = tt
 made-other w v event made found (Some (Refuses refusal)) room of step is = absurd is
@@ -87,12 +87,12 @@ made-other w v event made found (Some (Other entry difference)) room of step is 
     (v, ap (kept_next w) (sym of) ∙ kept_of w event (Ok (v, made)) room step ∙ ap (λ (e : Entry). Ok (v, e)) (sym is.0), subst (λ (e : Entry). DifferIn e found difference) (sym is.0) is.1)
 
 -- where the event is refused, the entry is not the next step
-pub refused-next : (P : Type 0) (r : Result (Option Made) AllocError) (refusal : Refused) → IfOk r (λ made. made ≡ Some (Refuses refusal)) → IfOk r (λ made. made ≡ None → P)
+pub refused-next : (P : Type 0) (r : Result (Option MadeInstead) AllocError) (refusal : Refused) → IfOk r (λ made. made ≡ Some (Refuses refusal)) → IfOk r (λ made. made ≡ None → P)
 refused-next P (Ok made) refusal is = λ none. absurd (cc)
 refused-next P (Err error) refusal is = tt
 
 -- and the refusal is what is made
-pub refused-other : (w : WorldState) (found : Entry) (event : Event) (r : Result (Option Made) AllocError) (refusal : Refused) → event ≡ found.event → IfOk r (λ made. made ≡ Some (Refuses refusal)) → OnOk r (refusal ≢ NoMemory)
+pub refused-other : (w : WorldState) (found : Entry) (event : Event) (r : Result (Option MadeInstead) AllocError) (refusal : Refused) → event ≡ found.event → IfOk r (λ made. made ≡ Some (Refuses refusal)) → OnOk r (refusal ≢ NoMemory)
     → (refusal ≢ NoMemory → kept_next w event ≡ Err refusal) → IfOk r (λ made. IfSome made (IsMade w found))
-refused-other w found event (Ok made) refusal of is other refused = subst (λ (m : Option Made). IfSome m (IsMade w found)) (sym is) (ap (kept_next w) (sym of) ∙ refused other)
+refused-other w found event (Ok made) refusal of is other refused = subst (λ (m : Option MadeInstead). IfSome m (IsMade w found)) (sym is) (ap (kept_next w) (sym of) ∙ refused other)
 refused-other w found event (Err error) refusal of is other refused = tt

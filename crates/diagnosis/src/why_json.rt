@@ -4,8 +4,8 @@
 //! All are `AllocError`, where a request for memory was refused.
 use crate::difference::Difference;
 use crate::refusal_words::push_reason;
-use crate::why_text::Lines;
-use crate::wrong_entry::{Made, WrongEntry};
+use crate::why_text::EntryLines;
+use crate::wrong_entry::{MadeInstead, WrongEntry};
 use messages::shape::Shape;
 use serde_json::{Map, Number, Value, json, put};
 use std::alloc::{AllocError, Global};
@@ -17,20 +17,20 @@ pub fn put_why(
     shape: Shape,
     wrong: &WrongEntry<'_>,
 ) -> Result<(), AllocError> {
-    let found = Lines::of(alloc, shape.version(), wrong.position, wrong.found)?;
+    let found = EntryLines::of(alloc, shape.version(), wrong.position, wrong.found)?;
     let event = Value::try_from_str(alloc, found.part(Difference::Name))?;
     put(members, alloc, "line", line_value(wrong.line))?;
     put(members, alloc, "event", event)?;
     match &wrong.made {
-        Made::Refused(refusal) => {
+        MadeInstead::Refused(refusal) => {
             let mut reason = String::new(alloc);
             push_reason(&mut reason, shape, wrong.found.event(), *refusal)?;
             let code = refusal.number();
             let value = json!(in alloc; {"code": code, "reason": reason})?;
             put(members, alloc, "refused", value)
         }
-        Made::Other(entry, difference) => {
-            let made = Lines::of(alloc, shape.version(), wrong.position, entry)?;
+        MadeInstead::Other(entry, difference) => {
+            let made = EntryLines::of(alloc, shape.version(), wrong.position, entry)?;
             let value = difference_value(alloc, wrong.line, *difference, &made, &found)?;
             put(members, alloc, "difference", value)?;
             put(members, alloc, "made", lines_value(alloc, &made)?)?;
@@ -52,8 +52,8 @@ fn difference_value(
     alloc: Global,
     line: u128,
     difference: Difference,
-    made: &Lines,
-    found: &Lines,
+    made: &EntryLines,
+    found: &EntryLines,
 ) -> Result<Value, AllocError> {
     let at = line.saturating_add(u128::from(found.count_before(difference)));
     let mut members = Map::new(alloc);
@@ -84,7 +84,7 @@ fn part_value(alloc: Global, part: Difference) -> Result<Value, AllocError> {
 }
 
 // The line of the part.
-fn line_of(alloc: Global, lines: &Lines, part: Difference) -> Result<Value, AllocError> {
+fn line_of(alloc: Global, lines: &EntryLines, part: Difference) -> Result<Value, AllocError> {
     match lines.line_of(part) {
         Some(line) => Value::try_from_str(alloc, line),
         None => Ok(Value::Null),
@@ -92,7 +92,7 @@ fn line_of(alloc: Global, lines: &Lines, part: Difference) -> Result<Value, Allo
 }
 
 // All lines of an entry.
-fn lines_value(alloc: Global, lines: &Lines) -> Result<Value, AllocError> {
+fn lines_value(alloc: Global, lines: &EntryLines) -> Result<Value, AllocError> {
     let mut values = Vec::new(alloc);
     for line in lines.text().lines() {
         values.push(Value::try_from_str(alloc, line)?)?;

@@ -3,7 +3,7 @@
 //! Each function here that can fail errs with `AllocError`, where a request for memory was refused.
 use crate::difference::Difference;
 use crate::refusal_words::push_refusal;
-use crate::wrong_entry::{Made, WrongEntry};
+use crate::wrong_entry::{MadeInstead, WrongEntry};
 use journal_text::journal::push_entry;
 use messages::entry::Entry;
 use messages::shape::Shape;
@@ -15,14 +15,19 @@ use std::fmt::Write;
 /// then why the event is refused, or where the entry that it makes differs first, with all lines of both.
 pub fn why_text(alloc: Global, shape: Shape, wrong: &WrongEntry<'_>) -> Result<String, AllocError> {
     let mut out = String::new(alloc);
-    let found = Lines::of(alloc, shape.version(), wrong.position, wrong.found)?;
+    let found = EntryLines::of(alloc, shape.version(), wrong.position, wrong.found)?;
     let line = wrong.line;
     let event = found.part(Difference::Name);
     writeln!(out, "line {line}: {event}")?;
     match &wrong.made {
-        Made::Refused(refusal) => push_refusal(&mut out, shape, wrong.found.event(), *refusal)?,
-        Made::Other(entry, difference) => {
-            let made = Lines::of(alloc, shape.version(), wrong.position, entry)?;
+        MadeInstead::Refused(refusal) => push_refusal(
+            &mut out,
+            shape,
+            wrong.found.event(),
+            *refusal,
+        )?,
+        MadeInstead::Other(entry, difference) => {
+            let made = EntryLines::of(alloc, shape.version(), wrong.position, entry)?;
             push_difference(&mut out, line, *difference, &made, &found)?;
         }
     }
@@ -31,23 +36,23 @@ pub fn why_text(alloc: Global, shape: Shape, wrong: &WrongEntry<'_>) -> Result<S
 
 /// The lines of an entry in a journal.
 #[derive(Drop)]
-pub(crate) struct Lines {
+pub(crate) struct EntryLines {
     text: String,
     is_answered: bool,
 }
 
-impl Lines {
+impl EntryLines {
     /// Those of the entry at this position of a journal of this version.
     pub(crate) fn of(
         alloc: Global,
         version: Version,
         position: u64,
         entry: &Entry,
-    ) -> Result<Lines, AllocError> {
+    ) -> Result<EntryLines, AllocError> {
         let mut text = String::new(alloc);
         push_entry(&mut text, version, position, entry)?;
         let is_answered = entry.reply().is_some();
-        Ok(Lines { text, is_answered })
+        Ok(EntryLines { text, is_answered })
     }
 
     /// All of them, as they stand there.
@@ -85,8 +90,8 @@ fn push_difference(
     out: &mut String,
     line: u128,
     difference: Difference,
-    made: &Lines,
-    found: &Lines,
+    made: &EntryLines,
+    found: &EntryLines,
 ) -> Result<(), AllocError> {
     let at = line.saturating_add(u128::from(found.count_before(difference)));
     write!(out, "first difference: line {at}, ")?;

@@ -17,7 +17,7 @@ use std::alloc::{AllocError, Global};
 
 /// What the rule makes of the event of an entry, where that is not the entry.
 #[derive(Drop)]
-pub enum Made {
+pub enum MadeInstead {
     /// The event is refused.
     Refused(Refused),
     /// Another entry, and where the one that was found differs from it first.
@@ -34,7 +34,7 @@ pub struct WrongEntry<'a> {
     /// The entry that was found.
     pub found: &'a Entry,
     /// What its event makes after the entries before it.
-    pub made: Made,
+    pub made: MadeInstead,
 }
 
 /// Why these entries are no run of a cluster of this shape, if they are none: the first that is not the next step, as
@@ -73,7 +73,7 @@ fn made_otherwise(
     world: &mut World,
     alloc: Global,
     found: &Entry,
-) -> Result<Option<Made>, AllocError>
+) -> Result<Option<MadeInstead>, AllocError>
     ensures next { IfOk result (λ made. made ≡ None → kept_next (world_state world.old) found.now.event ≡ Ok (world_state world.new, found.now)) }
     ensures other { IfOk result (λ made. IfSome made (IsMade (world_state world.old) found.now)) }
 {
@@ -85,23 +85,23 @@ fn made_otherwise(
 }
 
 // That the event is refused, unless that is for want of memory.
-fn made_none(refusal: Refused) -> Result<Option<Made>, AllocError>
-    ensures value { IfOk result (λ made. made ≡ Some (Made.Refused refusal)) }
+fn made_none(refusal: Refused) -> Result<Option<MadeInstead>, AllocError>
+    ensures value { IfOk result (λ made. made ≡ Some (MadeInstead.Refused refusal)) }
     ensures memory { OnOk result (refusal ≢ NoMemory) }
 {
     match refusal {
         Refused::NoMemory => Err(AllocError),
-        _ => Ok(Some(Made::Refused(refusal))),
+        _ => Ok(Some(MadeInstead::Refused(refusal))),
     }
 }
 
 // The entry that was made of the event of the one that was found, where the two differ.
-fn other_entry(made: Entry, found: &Entry) -> Option<Made>
+fn other_entry(made: Entry, found: &Entry) -> Option<MadeInstead>
     requires { made.event ≡ found.now.event }
     ensures { MatchOption result (made ≡ found.now) (IsOther made found.now) }
 {
     let difference = Difference::of(&made, found)?;
-    Some(Made::Other(made, difference))
+    Some(MadeInstead::Other(made, difference))
 }
 
 // The number of the lines of the entry in a journal.

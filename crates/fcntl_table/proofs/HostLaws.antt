@@ -156,11 +156,6 @@ hosts-inserted between m new host rows are is same updates =
     let Q : Map → Type 0 = λ x. Keeps x.entries host rows new.entries in
     hosts-kept m.entries new.entries host rows are is (subst Q same updates.0)
 
-pub hosts-same : (m new : Map) → AreHosts m.entries → new ≡ m → AreHosts new.entries
-hosts-same m new are same =
-    let P : Map → Type 0 = λ x. AreHosts x.entries in
-    subst P (sym same) are
-
 -- no process runs on a host whose numbers are out of range
 pub not_host-idle : (hosts : HostRows) (node incarnation pid : ℕ) → AreHosts hosts → (IsHost node incarnation → ⊥) → (processes_of hosts node incarnation).runs pid ≡ false
 unfolding processes_of
@@ -180,13 +175,6 @@ by_not_found P hosts host is p = subst P (sym (processes-not_found hosts host is
 -- an edit that fits the rows of a host's entry fits the host
 pub fits_on : (hosts : HostRows) (host : Host) (rows : List ProcessEntry) (edit : ProcessEdit) → Some rows ≡ kept hosts host → Fits rows edit → FitsOn hosts host edit
 fits_on hosts host rows edit is fits = record { rows = rows; kept = sym (is ∙ kept-by_test hosts host); fits = fits }
-
--- an edit that fits the host fits the rows of the host's entry
-pub fits_found : (hosts : HostRows) (host : Host) (rows : List ProcessEntry) (edit : ProcessEdit) → Some rows ≡ kept hosts host → FitsOn hosts host edit → Fits rows edit
-fits_found hosts host rows edit is on =
-    let same : Some rows ≡ Some on.rows = is ∙ (kept-by_test hosts host ∙ on.kept) in
-    let e : on.rows ≡ rows = cc in
-    subst (λ (r : List ProcessEntry). Fits r edit) e on.fits
 
 -- a failed look-up says that the host has no entry
 pub not_kept : (hosts : HostRows) (host : Host) (b : Bool) → b ≡ is_some (kept hosts host) → b ≡ false → None ≡ kept hosts host

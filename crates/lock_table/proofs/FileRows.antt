@@ -8,31 +8,39 @@ use Rattle.std.proofs.lemmas.List.{length-take, length-drop, get_or-take, get_or
 use Rattle.model.specs.declared.owner.Owner.{Owner}
 use Rattle.model.specs.rule.Owners.{same_owner}
 use Rattle.lock_table.specs.declared.owner_locks.OwnerLocks.{OwnerLocks}
-use Rattle.lock_table.specs.code.Rows.{rows_held, row_cmp, AllAfter, AreRows}
+use Rattle.lock_table.specs.code.Rows.{rows_held, mark_of, row_cmp, AllAfter, AreRows}
 
--- a row behind a place is of the same file or of a later one
-after_file : (r : OwnerLocks) (f : ℕ) (o : Owner) → row_cmp r f o ≡ Greater → f ≤ r.file
-after_file r f o h = elim (cases_lt r.file f) [
-  | inl lt ↦ let less : row_cmp r f o ≡ Less = rw (lt-ltb r.file f lt) refl in absurd cc
+-- a row behind a place has the same mark or a greater one
+pub after_mark : (r : OwnerLocks) (f : ℕ) (o : Owner) → row_cmp r f o ≡ Greater → mark_of f o ≤ mark_of r.file r.owner
+after_mark r f o h = elim (cases_lt (mark_of r.file r.owner) (mark_of f o)) [
+  | inl lt ↦ let less : row_cmp r f o ≡ Less = rw (lt-ltb (mark_of r.file r.owner) (mark_of f o) lt) refl in absurd cc
   | inr le ↦ le
 ]
 
-some_row : (l : List OwnerLocks) → 0 < length l → OwnerLocks
+pub some_row : (l : List OwnerLocks) → 0 < length l → OwnerLocks
 some_row [] h = absurd (omega arith)
 some_row (r ∷ rest) h = r
 
+-- marks rise along the rows
+pub marks_rise : (l : List OwnerLocks) → AreRows l → IsNonDecreasingBy (λ (r : OwnerLocks). mark_of r.file r.owner) l
+marks_rise [] rows i j d le lt = absurd (omega arith)
+marks_rise (r ∷ rest) rows zero zero d le lt = omega arith
+marks_rise (r ∷ rest) rows zero (suc j) d le lt = mark_after rest j rows.1 (omega arith)
+  where
+    mark_after : (l : List OwnerLocks) (j : ℕ) → AllAfter r.file r.owner l → j < length l → mark_of r.file r.owner ≤ mark_of (get_or l j d).file (get_or l j d).owner
+    mark_after [] j h lt = absurd (omega arith)
+    mark_after (s ∷ l) zero h lt = after_mark s r.file r.owner h.0
+    mark_after (s ∷ l) (suc j) h lt = mark_after l j h.1 (omega arith)
+marks_rise (r ∷ rest) rows (suc i) zero d le lt = absurd (omega arith)
+marks_rise (r ∷ rest) rows (suc i) (suc j) d le lt = marks_rise rest rows.2 i j d (omega arith) (omega arith)
+
+-- files rise with marks
+mark_file : (f g : ℕ) (o p : Owner) → mark_of f o ≤ mark_of g p → f ≤ g
+mark_file f g o p le = omega arith
+
 -- files rise along the rows
 pub files_rise : (l : List OwnerLocks) → AreRows l → IsNonDecreasingBy (λ (r : OwnerLocks). r.file) l
-files_rise [] rows i j d le lt = absurd (omega arith)
-files_rise (r ∷ rest) rows zero zero d le lt = omega arith
-files_rise (r ∷ rest) rows zero (suc j) d le lt = file_after rest j rows.1 (omega arith)
-  where
-    file_after : (l : List OwnerLocks) (j : ℕ) → AllAfter r.file r.owner l → j < length l → r.file ≤ (get_or l j d).file
-    file_after [] j h lt = absurd (omega arith)
-    file_after (s ∷ l) zero h lt = after_file s r.file r.owner h.0
-    file_after (s ∷ l) (suc j) h lt = file_after l j h.1 (omega arith)
-files_rise (r ∷ rest) rows (suc i) zero d le lt = absurd (omega arith)
-files_rise (r ∷ rest) rows (suc i) (suc j) d le lt = files_rise rest rows.2 i j d (omega arith) (omega arith)
+files_rise l rows i j d le lt = mark_file _ _ (get_or l i d).owner (get_or l j d).owner (marks_rise l rows i j d le lt)
 
 -- the first or the last ones of rows that stand behind a place stand behind it
 all_after-take : (l : List OwnerLocks) (n : ℕ) (f : ℕ) (o : Owner) → AllAfter f o l → AllAfter f o (take n l)
@@ -47,7 +55,7 @@ rows-take [] (suc n) rows = tt
 rows-take (s ∷ rest) zero rows = tt
 rows-take (s ∷ rest) (suc n) rows = (rows.0, all_after-take rest n s.file s.owner rows.1, rows-take rest n rows.2)
 
-rows-drop : (l : List OwnerLocks) (n : ℕ) → AreRows l → AreRows (drop n l)
+pub rows-drop : (l : List OwnerLocks) (n : ℕ) → AreRows l → AreRows (drop n l)
 rows-drop [] zero rows = tt
 rows-drop [] (suc n) rows = tt
 rows-drop (s ∷ rest) zero rows = rows

@@ -1,9 +1,11 @@
 -- What additions to sets of flags keep.
-use Rattle.std.proofs.Common.{◌≡◌, ℕ, zero, suc, ◌+◌, ◌*◌, ◌/◌, ◌%◌, ◌^◌, ◌<◌, length, get_or, set, List, [], ◌∷◌, refl, ◌∙◌, inl, inr, arith}
+use Rattle.std.proofs.Common.{◌≡◌, ℕ, zero, suc, ◌+◌, ◌*◌, ◌/◌, ◌%◌, ◌^◌, ◌-◌, ◌<◌, ◌≤◌, length, get_or, set, List, [], ◌∷◌, refl, ◌∙◌, inl, inr, arith}
 use Rattle.std.specs.Prelude.{bit_or}
-use Rattle.std.specs.Int.{bit_at, w64}
-use Rattle.std.proofs.lemmas.Nat.Bits.{bit_at_ones, bit_at-zero, bit_at_or, bit_at-lt, bit_at_set_same}
-use Rattle.std.proofs.lemmas.Bool.{cases_order}
+use Rattle.std.specs.Int.{bit_at, trailing_zeros, w64}
+use Rattle.std.proofs.Math.Nat.{div-le_self}
+use Rattle.std.proofs.lemmas.Nat.{pow_pos, div-add-mod'}
+use Rattle.std.proofs.lemmas.Nat.Bits.{bit_at_ones, bit_at-zero, bit_at_or, bit_at-lt, bit_at_set_same, bit_at_cat_high, bit_at-trailing_zeros}
+use Rattle.std.proofs.lemmas.Bool.{cases_lt, cases_order}
 use Rattle.std.proofs.lemmas.List.{get_or-set_same}
 use Rattle.lock_table.specs.declared.flag_set.FlagSet.{FlagSet}
 use Rattle.lock_table.specs.code.Pages.{HasFlag}
@@ -71,4 +73,48 @@ has-more w u i lt before k more h = elim (cases_order (k / 64) i) [
   | inl same ↦ has-joined w u i k lt same h
   | inr (inl below) ↦ has-kept w i (get_or u i 0) k (before k below h)
   | inr (inr above) ↦ absurd (omega arith)
+]
+
+-- the bits of a word from place s on are those of the word moved down by s places
+bit_at-moved : (x s i : ℕ) → bit_at x (s + i) ≡ bit_at (x / 2 ^ s) i
+bit_at-moved x s i =
+    let some = pow_pos s in
+    let small : x % 2 ^ s < 2 ^ s = omega arith in
+    let high : bit_at (x / 2 ^ s * 2 ^ s + x % 2 ^ s) (s + i) ≡ bit_at (x / 2 ^ s) (s + i - s) = bit_at_cat_high (x / 2 ^ s) s (x % 2 ^ s) (s + i) small (omega arith) in
+    let here : s + i - s ≡ i = omega arith in
+    rw (div-add-mod' x (2 ^ s), here) at high
+
+-- a word that has no bit from a place on
+pub bits-none : (x s : ℕ) → x / 2 ^ s ≡ 0 → (i : ℕ) → s ≤ i → bit_at x i ≡ 0
+bits-none x s none i from =
+    let here : s + (i - s) ≡ i = omega arith in
+    let moved : bit_at x i ≡ bit_at (x / 2 ^ s) (i - s) = rw here at (bit_at-moved x s (i - s)) in
+    moved ∙ rw none (bit_at-zero (i - s))
+
+-- the bits of a word from a place on and below its lowest one there
+pub bits-below : (x s : ℕ) → x < 2 ^ 64 → (x / 2 ^ s ≡ 0 → ⊥) → (i : ℕ) → s ≤ i → i < s + trailing_zeros w64 (x / 2 ^ s) → bit_at x i ≡ 0
+bits-below x s fits some i from below =
+    let here : s + (i - s) ≡ i = omega arith in
+    let moved : bit_at x i ≡ bit_at (x / 2 ^ s) (i - s) = rw here at (bit_at-moved x s (i - s)) in
+    let le = div-le_self x (2 ^ s) in
+    let positive : 0 < x / 2 ^ s = elim (cases_lt 0 (x / 2 ^ s)) [ inl lt ↦ lt | inr none ↦ absurd (some (omega arith)) ] in
+    let lowest = bit_at-trailing_zeros w64 (x / 2 ^ s) positive (omega arith) in
+    moved ∙ lowest.2 (i - s) (omega arith)
+
+-- a flag whose bit isn't set is not in the set
+none_in : (s : FlagSet) (q low from k : ℕ) → ((i : ℕ) → from ≤ i → i < low → bit_at (get_or s.words q 0) i ≡ 0) → k / 64 ≡ q → from ≤ k % 64 → k % 64 < low → HasFlag s k → ⊥
+none_in s q low from k none here above below h =
+    let set : bit_at (get_or s.words q 0) (k % 64) ≡ 1 = rw here at h.set in
+    let clear = none (k % 64) above below in
+    omega (arith, set, clear)
+
+-- no flag is set from one on up to the lowest set bit of its word
+pub next_in : (s : FlagSet) (flag low : ℕ) → ((i : ℕ) → flag % 64 ≤ i → i < low → bit_at (get_or s.words (flag / 64) 0) i ≡ 0) → low ≤ 64 → (k : ℕ) → flag ≤ k → k < flag / 64 * 64 + low → HasFlag s k → ⊥
+next_in s flag low none le k from below h = none_in s (flag / 64) low (flag % 64) k none (omega arith) (omega arith) (omega arith) h
+
+-- no flag is set from one on up to the lowest set bit of a word, if none is in the words before
+pub next_past : (s : FlagSet) (flag q low : ℕ) → ((k : ℕ) → flag ≤ k → k < q * 64 → HasFlag s k → ⊥) → ((i : ℕ) → 0 ≤ i → i < low → bit_at (get_or s.words q 0) i ≡ 0) → low ≤ 64 → (k : ℕ) → flag ≤ k → k < q * 64 + low → HasFlag s k → ⊥
+next_past s flag q low before none le k from below h = elim (cases_lt k (q * 64)) [
+  | inl lt ↦ before k from lt h
+  | inr ge ↦ none_in s q low 0 k none (omega arith) (omega arith) (omega arith) h
 ]

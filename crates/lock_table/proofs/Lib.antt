@@ -9,4 +9,6 @@ pub mod ListingLemmas
 pub mod ListingParts
 pub mod FlagLemmas
 pub mod PageLemmas
+pub mod NearRows
+pub mod Places
 pub mod Writes

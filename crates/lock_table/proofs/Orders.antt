@@ -1,5 +1,5 @@
 -- The order of owners, and the order of owners in files.
-use Rattle.std.proofs.Common.{◌≡◌, ◌≢◌, ◌⊎◌, ℕ, ◌<◌, refl, ap, sym, ◌∙◌, subst, inl, inr}
+use Rattle.std.proofs.Common.{◌≡◌, ◌≢◌, ◌⊎◌, ℕ, ◌<◌, refl, ap, sym, ◌∙◌, subst, inl, inr, arith}
 use Rattle.std.proofs.lemmas.Cmp.{ranked, then_total, on_total, nat_cmp_total, tied_itself}
 use Rattle.std.specs.Cmp.{IsTotalOrder}
 use Rattle.std.specs.Ordering.{nat_cmp, ordering_then, ordering_reverse}
@@ -9,6 +9,8 @@ use Rattle.model.specs.declared.owner.Kind.{Kind}
 use Rattle.model.specs.declared.owner.Kind.TheVariants.{OfProcess, OfDescription}
 use Rattle.model.specs.declared.owner.Owner.{Owner}
 use Rattle.model.specs.rule.Owners.{kind_cmp, owner_cmp}
+use Rattle.lock_table.specs.code.Pages.{flag_of}
+use Rattle.lock_table.specs.code.Rows.{mark_of}
 
 kind_rank : Kind → ℕ
 kind_rank OfProcess = 0
@@ -97,15 +99,22 @@ module _ {K : Type 0} (R : K → K → Ordering) (total : IsTotalOrder R) where
 abbrev pub Place : Type 0
 Place = ℕ × Owner
 
--- the order of places: by file, then by owner
+-- the order of places: by file, then by flag, then by owner
 abbrev pub place_cmp : Place → Place → Ordering
-place_cmp a b = ordering_then (nat_cmp a.0 b.0) (owner_cmp a.1 b.1)
+place_cmp a b = ordering_then (nat_cmp (mark_of a.0 a.1) (mark_of b.0 b.1)) (owner_cmp a.1 b.1)
 
 pub places_total : IsTotalOrder place_cmp
-places_total = then_total (on_total (λ (p : Place). p.0) nat_cmp_total) (on_total (λ (p : Place). p.1) owners_total)
+places_total = then_total (on_total (λ (p : Place). mark_of p.0 p.1) nat_cmp_total) (on_total (λ (p : Place). p.1) owners_total)
+
+-- files are equal where their owners and their marks are
+file_equal : (f g : ℕ) (o p : Owner) → o ≡ p → mark_of f o ≡ mark_of g p → f ≡ g
+file_equal f g o p owners marks = let flags : flag_of o ≡ flag_of p = ap (λ (q : Owner). flag_of q) owners in omega arith
 
 pub place_equal : (a b : Place) → place_cmp a b ≡ Equal → (a.0 ≡ b.0) × (a.1 ≡ b.1)
-place_equal a b h = let parts = then_equal _ _ h in (nat_cmp_equal _ _ parts.0, owner_equal _ _ parts.1)
+place_equal a b h =
+    let parts = then_equal _ _ h in
+    let owners = owner_equal _ _ parts.1 in
+    (file_equal a.0 b.0 a.1 b.1 owners (nat_cmp_equal _ _ parts.0), owners)
 
 pub place_itself : (f : ℕ) (o : Owner) → place_cmp (f, o) (f, o) ≡ Equal
 place_itself f o = tied_itself places_total (f, o)

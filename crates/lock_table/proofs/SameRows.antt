@@ -1,10 +1,10 @@
 -- Lists of rows that hold the same locks are equal row by row.
-use Rattle.std.proofs.Common.{◌≡◌, ℕ, ◌+◌, ◌<◌, ◌≤◌, ◌⊎◌, true, false, eqb, eq-eqb, List, [], ◌∷◌, drop, length, get_or, refl, sym, ap, ◌∙◌, inl, inr, arith}
+use Rattle.std.proofs.Common.{◌≡◌, ℕ, ◌+◌, ◌<◌, ◌⊎◌, true, false, eqb, eq-eqb, List, [], ◌∷◌, drop, length, get_or, refl, sym, ap, ◌∙◌, inl, inr}
 use Rattle.std.specs.List.{AllZip}
 use Rattle.std.specs.declared.cmp.Ordering.{Ordering}
 use Rattle.std.specs.declared.cmp.Ordering.TheVariants.{Less, Equal, Greater}
 use Rattle.std.proofs.lemmas.Bool.{cases_Bool, and_from}
-use Rattle.std.proofs.lemmas.List.{drop_more, drop_all}
+use Rattle.std.proofs.lemmas.List.{drop_more}
 use Rattle.intervals.specs.rule.Bytes.{nothing}
 use Rattle.intervals.specs.code.Runs.{value_at}
 use Rattle.model.specs.declared.owner.Owner.{Owner}
@@ -79,9 +79,6 @@ pub record Left (a b : List OwnerLocks) (i : ℕ) : Type 0 where
   pub to : AllZip IsSameRow (drop i a) (drop i b) → AllZip IsSameRow a b
   pub from : AllZip IsSameRow a b → AllZip IsSameRow (drop i a) (drop i b)
 
-pub left-start : (a b : List OwnerLocks) → Left a b 0
-left-start a b = record { to = λ h. h; from = λ h. h }
-
 module _ (a b : List OwnerLocks) (i : ℕ) (x y : OwnerLocks) (in_a : i < length a) (in_b : i < length b) (is_x : x ≡ get_or a i x) (is_y : y ≡ get_or b i y) (left : Left a b i) where
   pub left-more : IsSameRow x y → Left a b (i + 1)
   left-more same = record {
@@ -91,15 +88,6 @@ module _ (a b : List OwnerLocks) (i : ℕ) (x y : OwnerLocks) (in_a : i < length
 
   pub left-differ : (IsSameRow x y → ⊥) → AllZip IsSameRow a b → ⊥
   left-differ differ h = differ (rw (drop_read a i x in_a is_x, drop_read b i y in_b is_y) at (left.from h)).0
-
-pub left-end : (a b : List OwnerLocks) (i : ℕ) → length a ≤ i → length b ≤ i → Left a b i → AllZip IsSameRow a b
-left-end a b i le_a le_b left = left.to (rw (drop_all i a le_a, drop_all i b le_b) tt)
-
-pub same_length : (a b : List OwnerLocks) → AllZip IsSameRow a b → length a ≡ length b
-same_length [] [] h = refl
-same_length [] (s ∷ b) h = absurd h
-same_length (r ∷ a) [] h = absurd h
-same_length (r ∷ a) (s ∷ b) h = let e = same_length a b h.1 in omega arith
 
 -- the rows of a table, when it is given by its parts
 pub rows_are : (rows : List OwnerLocks) (limit : ℕ) (t : TableParts) → record { rows = rows; limit = limit } ≡ t → rows ≡ t.rows

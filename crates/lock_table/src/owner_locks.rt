@@ -8,7 +8,7 @@ ghost use Rattle.lock_table.specs.code.Blockers.{IsLowestBut};
 ghost use Rattle.lock_table.specs.code.Pages.{Has};
 ghost use Rattle.lock_table.specs.code.Listing.{ListsRegions};
 
-use crate::owner_set::OwnerSet;
+use crate::owner_set::{OwnerSet, mark_of};
 use crate::owner_spans::OwnerSpans;
 use intervals::span::{GREATEST, Span};
 use model::lock_info::LockInfo;
@@ -40,11 +40,15 @@ fn is_left_out(out: &Option<Owner>, owner: Owner) -> bool
 }
 
 impl OwnerLocks {
-    /// How the row stands to the place of an owner in a file: by file, then by owner.
+    /// How the row stands to the place of an owner in a file: by file, then by flag, then by owner.
     pub(crate) fn cmp_place(&self, file: u16, owner: Owner) -> Ordering
         ensures { result ≡ row_cmp self.now file owner }
     {
-        self.file.cmp(&file).then(self.owner.cmp(&owner))
+        match mark_of(self.file, self.owner).cmp(&mark_of(file, owner)) {
+            Ordering::Equal => self.owner.cmp(&owner),
+            Ordering::Less => Ordering::Less,
+            Ordering::Greater => Ordering::Greater,
+        }
     }
 
     /// An equal row.

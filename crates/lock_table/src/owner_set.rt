@@ -1,7 +1,8 @@
 //! Sets of owners that can have more owners than were added.
-ghost use Rattle.std.specs.Prelude.{◌≡◌, ◌<◌, IsTrue, ◌↔◌};
+ghost use Rattle.std.specs.Prelude.{◌≡◌, ◌<◌, ◌≤◌, IsTrue, ◌↔◌};
 ghost use Rattle.model.specs.declared.owner.Owner.{Owner as SomeOwner};
 ghost use Rattle.lock_table.specs.code.Pages.{flag_of, Has};
+ghost use Rattle.lock_table.specs.code.Rows.{mark_of};
 
 use crate::flag_set::FlagSet;
 use model::owner::Owner;
@@ -19,6 +20,14 @@ pub(crate) fn flag_of(owner: Owner) -> usize
     ensures within { result < 256 }
 {
     (owner.node as usize * 32 + owner.number as usize) % 256
+}
+
+/// The number by which the rows of a table stand: by file, and in a file by the owner's flag.
+#[inline]
+pub(crate) fn mark_of(file: u16, owner: Owner) -> usize
+    ensures { result ≡ mark_of file owner }
+{
+    file as usize * 256 + flag_of(owner)
 }
 
 impl OwnerSet {
@@ -45,6 +54,16 @@ impl OwnerSet {
         ensures { IsTrue result ↔ Has self.now owner }
     {
         self.flags.has(flag_of(owner))
+    }
+
+    /// The lowest flag, from this one, 0 to 255, on, that an owner of the set has; 256 if there is
+    /// none.
+    pub(crate) fn next(&self, flag: usize) -> usize
+        requires { flag < 256 }
+        ensures none_below { (o : SomeOwner) → flag ≤ flag_of o → flag_of o < result → Has self.now o → ⊥ }
+        ensures within { result ≤ 256 }
+    {
+        self.flags.next(flag)
     }
 
     /// Adds an owner.

@@ -21,10 +21,15 @@ use std::alloc::{AllocError, Global};
 // The number of bytes in a page.
 const PAGE: u64 = 2048;
 
-// The numbers of an index's sets of owners, for pages, and of its sets of files, for the flags of
-// owners.
-const SETS: usize = 32768;
+// The least and the greatest number of an index's sets of owners, for pages, and how many of them it
+// has for each row of its table.
+const LEAST_SETS: usize = 8192;
 
+const MOST_SETS: usize = 32768;
+
+const SETS_OF_ROW: usize = 128;
+
+// The number of an index's sets of files, for the flags of owners.
 const FILE_SETS: usize = 256;
 
 // The greatest number of a file that has a flag.
@@ -52,13 +57,23 @@ pub struct PageIndex {
     notes: u32,
 }
 
-// The place of a page's set of owners.
-fn slot_of(file: u16, page: u64) -> usize
-    requires { page < 2 ^ 60 }
-    ensures result { result ≡ slot_of file page }
-    ensures within { result < 32768 }
+// The number of sets of owners for a table of so many rows.
+fn sets_for(rows: usize) -> usize
+    ensures some { 0 < result }
+    ensures within { result ≤ 32768 }
 {
-    ((page + file as u64 * 1031) % SETS as u64) as usize
+    let sets = rows.min(MOST_SETS / SETS_OF_ROW) * SETS_OF_ROW;
+    sets.max(LEAST_SETS)
+}
+
+// The place of a page's set of owners, of so many.
+fn slot_of(sets: usize, file: u16, page: u64) -> usize
+    requires page { page < 2 ^ 60 }
+    requires sets { 0 < sets }
+    ensures result { result ≡ slot_of sets file page }
+    ensures within { result < sets }
+{
+    ((page + file as u64 * 1031) % sets as u64) as usize
 }
 
 impl PageIndex {
@@ -76,12 +91,13 @@ impl PageIndex {
         }
     }
 
-    /// An index with memory, whose sets have no owner.
-    pub(crate) fn with_memory(alloc: Global) -> Result<Self, AllocError>
+    /// An index with memory for a table of so many rows, whose sets have no owner.
+    pub(crate) fn with_memory(alloc: Global, rows: usize) -> Result<Self, AllocError>
         ensures { IfOk result IsKept }
     {
-        let mut sets = Vec::with_capacity(alloc, SETS)?;
-        sets.resize(SETS, OwnerSet::none())?;
+        let many = sets_for(rows);
+        let mut sets = Vec::with_capacity(alloc, many)?;
+        sets.resize(many, OwnerSet::none())?;
         let mut files = Vec::with_capacity(alloc, FILE_SETS)?;
         files.resize(FILE_SETS, FlagSet::none())?;
         Ok(PageIndex {
@@ -97,7 +113,12 @@ impl PageIndex {
     pub(crate) fn is_kept(&self) -> bool
         ensures { IsTrue result ↔ IsKept self.now }
     {
-        self.sets.len() == SETS && self.files.len() == FILE_SETS
+        self.sets.len() > 0 && self.files.len() == FILE_SETS
+    }
+
+    /// Whether a table of so many rows wants twice as many sets as the index has, or more.
+    pub(crate) fn is_small(&self, rows: usize) -> bool {
+        self.sets.len() <= sets_for(rows) / 2
     }
 
     /// Whether the index is due to be renewed.
@@ -118,7 +139,7 @@ impl PageIndex {
         }
         let mut near = self.long;
         for page in first..last + 1 {
-            near.join(&self.sets[slot_of(file, page)]);
+            near.join(&self.sets[slot_of(self.sets.len(), file, page)]);
         }
         near
     }
@@ -162,7 +183,7 @@ impl PageIndex {
         ensures files { self.new.files.items ≡ self.old.files.items }
         ensures wide { self.new.wide ≡ self.old.wide }
     {
-        let slot = slot_of(file, page);
+        let slot = slot_of(self.sets.len(), file, page);
         let mut set = self.sets[slot];
         set.add(owner);
         self.sets[slot] = set;

@@ -24,9 +24,6 @@ use Rattle.model.proofs.RunLaws.{some_start, start_from, run_ends, run_from-is_r
 nat_equal : (a : ℕ) → nat_cmp a a ≡ Equal
 nat_equal a = grind (arith, nat_tests)
 
-nat_less : (a b : ℕ) → a < b → nat_cmp a b ≡ Less
-nat_less a b h = grind (arith, nat_tests)
-
 nat_both : (a b : ℕ) → nat_cmp a b ≢ Greater → nat_cmp b a ≢ Greater → a ≡ b
 nat_both a b h k = elim (cases_order a b) [
   | inl same ↦ same

@@ -2,6 +2,7 @@
 //! locks find.
 ghost use Rattle.model.specs.rule.Locks.{LowestIsLowest, LowestInWayIsLowest, LowestInWayIsOne};
 ghost use Rattle.model.specs.rule.Laws.{ClosedFileHasNoLock, LastCloseDropsLocks, ExitLeavesNothing, ForkSharesDescriptions, CallsKeepAnchors, OnlyDoneCallsChange, WaitsAreNotDenied};
+ghost use Rattle.model.specs.code.Equality.{SameModeIsEquality, SameOwnerIsEquality};
 
 /// The search for the lowest lock that blocks an owner finds that lock, and finds none exactly
 /// where no other owner's lock on the span excludes the mode.
@@ -58,4 +59,14 @@ pub fn only_done_calls_change()
 /// changed nothing (POSIX.1-2017 `fcntl()`, F_SETLKW and EINTR).
 pub fn waits_are_not_denied()
     ensures { WaitsAreNotDenied }
+{}
+
+/// The test `same_mode` of the definitions holds exactly of two equal modes.
+pub fn same_mode_is_equality()
+    ensures { SameModeIsEquality }
+{}
+
+/// The test `same_owner` of the definitions holds exactly of two equal owners.
+pub fn same_owner_is_equality()
+    ensures { SameOwnerIsEquality }
 {}

@@ -6,7 +6,6 @@
 
 pub mod access;
 pub mod call;
-pub mod equality;
 pub mod host;
 pub mod laws;
 pub mod level;

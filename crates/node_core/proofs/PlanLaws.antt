@@ -18,7 +18,7 @@ use Rattle.messages.specs.declared.message.Message.{Message}
 use Rattle.messages.specs.declared.message.Message.TheVariants.{Freed}
 use Rattle.messages.specs.declared.refusal.StepError.{StepError}
 use Rattle.messages.specs.declared.outcome.Outcome.{Outcome}
-use Rattle.node_core.specs.declared.change.Change.{Change}
+use Rattle.node_core.specs.declared.change.NodeChange.{NodeChange}
 use Rattle.node_core.specs.declared.event.NodeEvent.{NodeEvent}
 use Rattle.node_core.specs.code.Anchors.{IsAnchored}
 use Rattle.node_core.specs.rule.Node.{node_rule}
@@ -39,7 +39,7 @@ use Rattle.node_core.specs.rule.Files.{file_state}
 use Rattle.node_core.specs.rule.State.{FileState, NodeState, Effect, host, outcome}
 use Rattle.node_core.specs.rule.Try.{with_freed}
 use Rattle.node_core.specs.rule.Parts.{NodeParts, node_state, IsOwnCall, IsNode}
-use Rattle.node_core.specs.code.Plans.{calls_after, table_after, pending_after, files_after, told, files_told, drafted, planned, effect_of, TableFits, CallsFit, PartsFit, Fits}
+use Rattle.node_core.specs.code.Plans.{calls_after, table_after, pending_after, edit_in, files_after, told, files_told, drafted, planned, effect_of, TableFits, CallsFit, PartsFit, Fits}
 use Rattle.node_core.proofs.NodeLaws.{around-own}
 
 pub on : {A : Type 0} (b : Bool) (x y : A) → b ≡ true → (if b then x else y) ≡ x
@@ -102,8 +102,8 @@ told-nothing p e file rises asked =
     ap (λ (b : Bool). if b then heard else effect_of p e) (owes-still p e file false rises asked)
 
 -- the outcome of a planned step is the one of its effect
-pub outcome-planned : (p : NodeParts) (E : Effect) (e : EffectFields) (call : Option CallId) (change : Change) → E ≡ effect_of p e → change ≡ record { edit = e.edit; outcome = record { call = call; reply = e.reply; sends = e.sends } } → outcome call E ≡ (planned p change.edit, change.outcome)
-outcome-planned p E e call change is made = ap (outcome call) is ∙ sym (ap (λ (x : Change). (planned p x.edit, x.outcome)) made)
+pub outcome-planned : (p : NodeParts) (E : Effect) (e : EffectFields) (call : Option CallId) (change : NodeChange) → E ≡ effect_of p e → change ≡ record { edit = e.edit; outcome = record { call = call; reply = e.reply; sends = e.sends } } → outcome call E ≡ (planned p change.edit, change.outcome)
+outcome-planned p E e call change is made = ap (outcome call) is ∙ sym (ap (λ (x : NodeChange). (planned p x.edit, x.outcome)) made)
 
 pub if-if : {A : Type 0} (b : Bool) (x y z : A) → (if b then x else (if b then y else z)) ≡ (if b then x else z)
 if-if true x y z = refl
@@ -124,7 +124,7 @@ processes-left h rows left locks e made on =
     (λ i. record { limit = locks.limit; on = with_host on h (is i); locks = held locks })
     ∙ sym (λ i. record { limit = locks.limit; on = λ n k. if-if ((n == h.node) && (k == h.incarnation)) (edited own e) (processes rows) (on n k) i; locks = held locks })
 
-pub node-planned : (p : NodeParts) (e : NodeEdit) (calls : ℕ) (rows : List ProcessEntry) (locks : TableParts) (pending : List OpenCall) (files : List FileRow) → calls ≡ calls_after p.calls e.draft.numbered → Leaves (host (node_state p)) p.processes p.locks e.table rows locks → pending ≡ pending_after p.pending e.calls → file_state files ≡ files_told (files_after (file_state p.files) p.files e.draft.command) e.freed → node_state (changed p calls rows locks pending files) ≡ planned p e
+pub node-planned : (p : NodeParts) (e : NodeEdit) (calls : ℕ) (rows : List ProcessEntry) (locks : TableParts) (pending : List OpenCall) (files : List FileRow) → calls ≡ calls_after p.calls e.draft.numbered → Leaves (host (node_state p)) p.processes p.locks e.table rows locks → pending ≡ pending_after p.pending e.calls → file_state files ≡ files_told (files_after (file_state p.files) p.files (edit_in e.draft.command)) e.freed → node_state (changed p calls rows locks pending files) ≡ planned p e
 unfolding node_state
 node-planned p e calls rows locks pending files counted made left known =
     let table = made (λ n k. no_processes) in
@@ -186,6 +186,6 @@ unfolding node_state
 node-is-anchored p h = h.anchored
 
 -- a planned step fits the node
-pub step-fits : (p : NodeParts) (e : NodeEvent) (r : Result Change StepError) → IsNode p → IfOk r (λ c. node_rule (node_state p) e ≡ Ok (planned p c.edit, c.outcome)) → IfOk r (λ c. PartsFit p c.edit) → IfOk r (λ c. Fits p c.edit)
+pub step-fits : (p : NodeParts) (e : NodeEvent) (r : Result NodeChange StepError) → IsNode p → IfOk r (λ c. node_rule (node_state p) e ≡ Ok (planned p c.edit, c.outcome)) → IfOk r (λ c. PartsFit p c.edit) → IfOk r (λ c. Fits p c.edit)
 step-fits p e (Err x) h is fits = tt
 step-fits p e (Ok c) h is fits = (fits, subst (λ (r : Result (NodeState × Outcome) StepError). IfOk r (λ done. IsAnchored done.0)) is (rule-anchored (node_state p) e (node-is-anchored p h)))

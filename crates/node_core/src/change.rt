@@ -6,12 +6,12 @@ use messages::outcome::Outcome;
 
 /// A planned step of a node: what it changes, and its outcome.
 #[derive(Drop)]
-pub struct Change {
+pub struct NodeChange {
     pub edit: NodeEdit,
     pub outcome: Outcome,
 }
 
-impl Change {
+impl NodeChange {
     /// The outcome of the step.
     pub fn outcome(&self) -> &Outcome
         ensures { result.now ≡ self.now.outcome }

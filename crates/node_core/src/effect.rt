@@ -3,7 +3,7 @@
 //! Each function here that can fail errs with `AllocError`, where a request for memory was refused.
 ghost use Rattle.std.specs.Prelude.{◌≡◌, Some, None, [], ◌∷◌, ◌++◌, IfOk};
 
-use crate::change::Change;
+use crate::change::NodeChange;
 use crate::node_edit::NodeEdit;
 use messages::items::Items;
 use messages::message::Message;
@@ -55,7 +55,7 @@ impl Effect {
     }
 
     /// Puts `first` before the other messages.
-    pub fn after(self, alloc: Global, first: Message) -> Result<Effect, AllocError>
+    pub fn with_first(self, alloc: Global, first: Message) -> Result<Effect, AllocError>
         ensures { IfOk result (λ effect. effect ≡ record { edit = self.edit; reply = self.reply; sends = first ∷ self.sends }) }
     {
         let mut sends = Items::one(alloc, first)?;
@@ -67,10 +67,10 @@ impl Effect {
         })
     }
 
-    /// Puts `last` behind the other messages, and adds the file to those for which no Freed is owed
+    /// Puts `freed` behind the other messages, and adds the file to those for which no Freed is owed
     /// any longer.
-    pub fn before(self, file: u16, last: Message) -> Result<Effect, AllocError>
-        ensures { IfOk result (λ effect. effect ≡ record { edit = record self.edit { freed = self.edit.freed ++ file ∷ [] }; reply = self.reply; sends = self.sends ++ last ∷ [] }) }
+    pub fn with_freed_last(self, file: u16, freed: Message) -> Result<Effect, AllocError>
+        ensures { IfOk result (λ effect. effect ≡ record { edit = record self.edit { freed = self.edit.freed ++ file ∷ [] }; reply = self.reply; sends = self.sends ++ freed ∷ [] }) }
     {
         let Effect {
             mut edit,
@@ -78,16 +78,16 @@ impl Effect {
             mut sends,
         } = self;
         edit.freed.push(file)?;
-        sends.push(last)?;
+        sends.push(freed)?;
         Ok(Effect { edit, reply, sends })
     }
 
     /// The change and the outcome of a step, with the name that the call took, if the step is one
     /// of a call.
-    pub fn change(self, call: Option<CallId>) -> Change
+    pub fn change(self, call: Option<CallId>) -> NodeChange
         ensures { result ≡ record { edit = self.edit; outcome = record { call = call; reply = self.reply; sends = self.sends } } }
     {
-        Change {
+        NodeChange {
             edit: self.edit,
             outcome: Outcome {
                 call,

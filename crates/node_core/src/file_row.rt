@@ -2,6 +2,8 @@
 //!
 //! Each function here that can fail errs with `AllocError`, where a request for memory was refused.
 ghost use Rattle.std.specs.Prelude.{◌≡◌, ◌↔◌, false, IfOk, IsTrue};
+ghost use Rattle.token_set.specs.code.Sets.{token_of};
+ghost use Rattle.messages.specs.rule.Reports.{runs_of};
 ghost use Rattle.node_core.specs.rule.State.{first_file};
 ghost use Rattle.node_core.specs.rule.Answers.{answer_of};
 ghost use Rattle.node_core.specs.rule.Commands.{is_conflict, renewed};
@@ -13,6 +15,7 @@ use crate::answer::Answer;
 use crate::numbers::begin_of;
 use crate::token_command::TokenCommand;
 use intervals::span::Span;
+use messages::token_run::TokenRuns;
 use model::host::Host;
 use std::alloc::{AllocError, Global};
 use token_set::edit::TokenEdit;
@@ -180,4 +183,12 @@ impl FileRow {
         }
         self.token.same(&other.token)
     }
+}
+
+/// The longest runs of the token, as a report has them.
+pub fn runs_of(alloc: Global, token: &TokenSet) -> Result<TokenRuns, AllocError>
+    ensures { IfOk result (λ runs. runs ≡ runs_of (token_of token.now)) }
+{
+    let runs = token.runs(alloc)?;
+    TokenRuns::of(alloc, &runs)
 }

@@ -6,7 +6,7 @@ ghost use Rattle.std.specs.List.{slice_get};
 ghost use Rattle.model.specs.rule.Limits.{IsNumber};
 ghost use Rattle.node_core.specs.rule.State.{first_file};
 ghost use Rattle.node_core.specs.rule.Files.{state_of, file_state};
-ghost use Rattle.node_core.specs.code.Plans.{files_after, told, files_told, CommandFits};
+ghost use Rattle.node_core.specs.code.Plans.{edit_in, files_after, told, files_told, CommandFits};
 
 use crate::file_row::{FileEdit, FileRow};
 use std::alloc::{AllocError, Global};
@@ -57,12 +57,13 @@ pub fn file_of(files: &[FileRow], file: u16) -> &FileRow
 }
 
 /// Makes the planned change of a command at its file, if there is one. Takes no memory.
-pub fn apply_command(files: &mut Vec<FileRow>, command: Option<FileEdit>)
-    requires { CommandFits (length files.old.items) command }
-    ensures state { file_state files.new.items ≡ files_after (file_state files.old.items) files.old.items command }
+pub fn apply_command(files: &mut Vec<FileRow>, command: Option<Box<FileEdit>>)
+    requires { CommandFits (length files.old.items) (edit_in command) }
+    ensures state { file_state files.new.items ≡ files_after (file_state files.old.items) files.old.items (edit_in command) }
     ensures count { length files.new.items ≡ length files.old.items }
 {
     if let Some(edit) = command {
+        let edit = Box::into_inner(edit);
         let row = &mut files[edit.file as usize - 1];
         row.apply(edit);
     }

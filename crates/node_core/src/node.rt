@@ -9,7 +9,7 @@ ghost use Rattle.node_core.specs.rule.Files.{state_of};
 ghost use Rattle.node_core.specs.rule.Parts.{node_state, IsCallOf};
 ghost use Rattle.node_core.specs.code.Plans.{planned, Fits};
 
-use crate::change::Change;
+use crate::change::NodeChange;
 use crate::event::NodeEvent;
 use crate::file_row::FileRow;
 use crate::files::{apply_command, clear_owed, copy_files, file_of, new_files, same_files};
@@ -201,7 +201,7 @@ impl Node {
     ///
     /// # Errors
     /// The errors of `step`, in the same cases.
-    pub fn plan_delivery(&self, alloc: Global, message: &Message) -> Result<Change, StepError>
+    pub fn plan_delivery(&self, alloc: Global, message: &Message) -> Result<NodeChange, StepError>
         ensures ok { IfOk result (λ change. node_rule (node_state self.now) (Deliver message.now) ≡ Ok (planned self.now change.edit, change.outcome)) }
         ensures err { IfErr result (λ error. error ≢ StepError.NoMemory → node_rule (node_state self.now) (Deliver message.now) ≡ Err error) }
         ensures refused { (r : StepError) → node_rule (node_state self.now) (Deliver message.now) ≡ Err r → result ≡ Err r }
@@ -212,7 +212,7 @@ impl Node {
     }
 
     // Plans what the node does at what comes to it beside messages, as `plan` does for the event.
-    fn plan_input(&self, alloc: Global, input: &NodeInput) -> Result<Change, StepError>
+    fn plan_input(&self, alloc: Global, input: &NodeInput) -> Result<NodeChange, StepError>
         ensures ok { IfOk result (λ change. node_rule (node_state self.now) (Input input.now) ≡ Ok (planned self.now change.edit, change.outcome)) }
         ensures err { IfErr result (λ error. error ≢ StepError.NoMemory → node_rule (node_state self.now) (Input input.now) ≡ Err error) }
         ensures refused { (r : StepError) → node_rule (node_state self.now) (Input input.now) ≡ Err r → result ≡ Err r }
@@ -232,7 +232,7 @@ impl Node {
     ///
     /// # Errors
     /// The errors of `step`, in the same cases.
-    pub fn plan(&self, alloc: Global, event: &NodeEvent) -> Result<Change, StepError>
+    pub fn plan(&self, alloc: Global, event: &NodeEvent) -> Result<NodeChange, StepError>
         ensures ok { IfOk result (λ change. node_rule (node_state self.now) event.now ≡ Ok (planned self.now change.edit, change.outcome)) }
         ensures err { IfErr result (λ error. error ≢ StepError.NoMemory → node_rule (node_state self.now) event.now ≡ Err error) }
         ensures refused { (r : StepError) → node_rule (node_state self.now) event.now ≡ Err r → result ≡ Err r }
@@ -266,12 +266,12 @@ impl Node {
     }
 
     /// Makes a planned change, and gives the outcome of its step. Takes no memory.
-    pub fn apply(&mut self, change: Change) -> Outcome
+    pub fn apply(&mut self, change: NodeChange) -> Outcome
         requires { Fits self.old change.edit }
         ensures state { node_state self.new ≡ planned self.old change.edit }
         ensures outcome { result ≡ change.outcome }
     {
-        let Change { edit, outcome } = change;
+        let NodeChange { edit, outcome } = change;
         self.apply_edit(edit);
         outcome
     }
@@ -324,6 +324,7 @@ impl Node {
     }
 }
 
+mod answers;
 mod calls;
 mod commands;
 mod interrupts;

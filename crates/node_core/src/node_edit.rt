@@ -17,11 +17,11 @@ use model::host::Host;
 use std::alloc::Global;
 
 /// The changes of a step that come before a call is tried: whether the call takes the next number,
-/// and what a command changes at its file.
+/// and what a command changes at its file. (In a box, because a change is handed on often.)
 #[derive(Drop)]
 pub struct NodeDraft {
     pub numbered: bool,
-    pub command: Option<FileEdit>,
+    pub command: Option<Box<FileEdit>>,
 }
 
 impl NodeDraft {
@@ -46,7 +46,7 @@ impl NodeDraft {
     }
 
     /// The draft of a command, which changes its file.
-    pub fn of_command(edit: FileEdit) -> NodeDraft
+    pub fn of_command(edit: Box<FileEdit>) -> NodeDraft
         ensures { result ≡ record { numbered = false; command = Some edit } }
     {
         NodeDraft {
@@ -62,8 +62,8 @@ pub enum NodeTableEdit {
     Nothing,
     /// A process begins, or a descriptor opens.
     OfProcess(ProcessEdit),
-    /// An owner's locks in a file change.
-    OfLocks(LockEdit),
+    /// An owner's locks in a file change. (In a box, as above.)
+    OfLocks(Box<LockEdit>),
     /// A descriptor of a process is closed, and the locks that depend on it are dropped.
     Closes { pid: u16, fd: u8 },
     /// A process exits: all its descriptors are closed, and it runs no longer.
@@ -114,7 +114,7 @@ pub fn apply_table(
     match edit {
         NodeTableEdit::Nothing => {}
         NodeTableEdit::OfProcess(edit) => processes.apply(edit),
-        NodeTableEdit::OfLocks(edit) => locks.apply(edit),
+        NodeTableEdit::OfLocks(edit) => locks.apply(Box::into_inner(edit)),
         NodeTableEdit::Closes { pid, fd } => close_at(processes, locks, host, pid, fd),
         NodeTableEdit::Exits { pid } => exit_at(processes, locks, host, pid),
     }

@@ -17,13 +17,13 @@ use Rattle.messages.specs.rule.Reports.{reported}
 use Rattle.messages.specs.declared.message.Message.{Message}
 use Rattle.messages.specs.declared.message.Message.TheVariants.{Request, Grant, Revoke, Taken, Released, Conflict, Deny, Freed, Hello, Report}
 use Rattle.token_server.proofs.FreeLaws.{row_after-fewer}
-use Rattle.token_server.specs.declared.known_nodes.node_change.NodeChange.TheVariants.{Relieved}
+use Rattle.token_server.specs.declared.known_nodes.known_change.KnownChange.TheVariants.{Relieved}
 use Rattle.token_server.specs.declared.token_queue.token_request.TokenRequest.{TokenRequest}
 use Rattle.token_server.specs.rule.Requests.{is_of_call}
 use Rattle.token_server.specs.rule.Rows.{Row, is_awaited, is_grant, revoked_mode, asks_token}
 use Rattle.token_server.specs.rule.State.{ServerState, awaits, forgotten, requests}
 use Rattle.token_server.specs.rule.Server.{Change, with_a_row, request_of, asked, acknowledged, ended, put_off, taken, released, in_conflict, heard, row_of_host, freed, delivered}
-use Rattle.cluster_core.proofs.rounds.RowsOn.{row_found}
+use Rattle.cluster_core.proofs.steps.ServerRows.{row_found}
 use Rattle.progress.proofs.Changing.{IsAged, forgotten_costs, answered_costs, answered_one}
 use Rattle.progress.proofs.Brought.{Fits, brings, comes_by, Brings, grant_alone, revoke_alone, asks_hello, all_pass_cost, put_off_each, forgotten_each, requeued_costs, requeued_each, enqueued_costs, enqueued_each, enqueued_shape, with_a_row_costs}
 use Rattle.progress.proofs.Costs.{revokes_for, grants_for, cost_of, most_of, for_each, each_both, passing_cost, passing_each}

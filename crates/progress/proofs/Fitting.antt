@@ -26,10 +26,9 @@ use Rattle.token_server.specs.rule.Rows.{Row, revoked_mode}
 use Rattle.token_server.specs.rule.State.{ServerState}
 use Rattle.cluster_core.specs.rule.World.{WorldState, first_world}
 use Rattle.cluster_core.specs.rule.Runs.{Leads}
-use Rattle.cluster_core.proofs.rounds.Commands.{granted_command, revoked_command, IsNumbered}
 use Rattle.cluster_core.proofs.rounds.Kinds.{every_answer}
-use Rattle.cluster_core.proofs.rounds.RowsOn.{row_found}
 use Rattle.cluster_core.proofs.runs.Runs.{good_run}
+use Rattle.cluster_core.proofs.steps.ServerRows.{row_found, awaits_taken, revokes}
 use Rattle.cluster_core.proofs.tokens.Present.{Was, Present}
 use Rattle.cluster_core.proofs.tokens.Talks.{IsCommandTo}
 use Rattle.progress.proofs.Brought.{Fits}
@@ -74,34 +73,37 @@ module _ (shape : ShapeFields) (is : IsShape shape) (past : List Entry) (w : Wor
     s = w.servers file
 
     -- a command of the number to the row's host that was sent is the one that is outstanding
-    same_command : (n i k : ℕ) (row : Row) (m : Message) → s.rows n ≡ Some row → row.incarnation ≡ i → (numbered : IsNumbered k row.outstanding) → Was w m → IsCommandTo file n i k m → row.outstanding ≡ Some m
-    same_command n i k row m there of numbered sent to =
+    same_command : (n i k : ℕ) (row : Row) (command m : Message) → s.rows n ≡ Some row → row.incarnation ≡ i → row.outstanding ≡ Some command → ((f j h l : ℕ) → IsCommandTo f j h l command → k ≡ l) → Was w m → IsCommandTo file n i k m → row.outstanding ≡ Some m
+    same_command n i k row command m there of waiting numbered sent to =
         let talk = (present.serves file).talks n in
-        let waits = talk.waits row numbered.command there numbered.waiting in
-        let number : k ≡ row.number = numbered.number file n row.incarnation row.number waits.1 in
+        let waits = talk.waits row command there waiting in
+        let number : k ≡ row.number = numbered file n row.incarnation row.number waits.1 in
         let to_row : IsCommandTo file n row.incarnation row.number m = subst (λ (j : ℕ). IsCommandTo file n j row.number m) (sym of) (subst (λ (j : ℕ). IsCommandTo file n i j m) number to) in
-        let same : numbered.command ≡ m = talk.one_number row.incarnation row.number numbered.command m waits.0 sent waits.1 to_row in
-        numbered.waiting ∙ ap (λ (x : Message). Some x) same
+        let same : command ≡ m = talk.one_number row.incarnation row.number command m waits.0 sent waits.1 to_row in
+        waiting ∙ ap (λ (x : Message). Some x) same
 
     fits_taken : (number : ℕ) (call : CallId) → Was w (Taken file number call) → Fits s (Taken file number call)
     fits_taken number call sent row there grant r for =
         let found = row_found call.incarnation (s.rows call.node) row there in
         let h = every_answer shape past w (Taken file number call) is before sent in
-        let same = same_command call.node call.incarnation number row (Grant file number call h.0 h.1) found.0 found.1 (granted_command number row.outstanding grant) h.2 (refl, refl, refl, refl) in
+        let ends = awaits_taken number row.outstanding row.token (Taken file number call) grant in
+        let same = same_command call.node call.incarnation number row ends.command (Grant file number call h.0 h.1) found.0 found.1 ends.waiting ends.number h.2 (refl, refl, refl, refl) in
         ap (grants_for r) (sym same) ∙ for
 
     fits_conflict : (number : ℕ) (holder : Host) (call : CallId) (lock : LockInfo) → Was w (Conflict file number holder call lock) → Fits s (Conflict file number holder call lock)
     fits_conflict number holder call lock sent row mode there revoke r for =
         let found = row_found holder.incarnation (s.rows holder.node) row there in
         let h = every_answer shape past w (Conflict file number holder call lock) is before sent in
-        let same = same_command holder.node holder.incarnation number row (Revoke file number holder call h.0 h.1) found.0 found.1 (revoked_command number mode row.outstanding revoke) h.2 (refl, refl, refl, refl) in
+        let ends = revokes number mode row.outstanding revoke in
+        let same = same_command holder.node holder.incarnation number row ends.command (Revoke file number holder call h.0 h.1) found.0 found.1 ends.waiting ends.number h.2 (refl, refl, refl, refl) in
         (and_parts (is_of_call call r) (same_mode h.0 r.mode && same_range h.1.required r.wanted.required) (ap (revokes_for r) (sym same) ∙ for)).0
 
     fits_released : (number : ℕ) (holder : Host) (call : CallId) (span : Range) → Was w (Released file number holder call span) → Fits s (Released file number holder call span)
     fits_released number holder call span sent row mode there revoke r for =
         let found = row_found holder.incarnation (s.rows holder.node) row there in
         let h = every_release shape past w file number holder call span is before sent in
-        let same = same_command holder.node holder.incarnation number row (Revoke file number holder call h.mode h.wanted) found.0 found.1 (revoked_command number mode row.outstanding revoke) h.revoked (refl, refl, refl, refl) in
+        let ended = revokes number mode row.outstanding revoke in
+        let same = same_command holder.node holder.incarnation number row ended.command (Revoke file number holder call h.mode h.wanted) found.0 found.1 ended.waiting ended.number h.revoked (refl, refl, refl, refl) in
         let parts = and_parts (is_of_call call r) (same_mode h.mode r.mode && same_range h.wanted.required r.wanted.required) (ap (revokes_for r) (sym same) ∙ for) in
         let more = and_parts (same_mode h.mode r.mode) (same_range h.wanted.required r.wanted.required) parts.1 in
         let bytes = and_parts (h.wanted.required.lo == r.wanted.required.lo) (h.wanted.required.hi == r.wanted.required.hi) more.1 in

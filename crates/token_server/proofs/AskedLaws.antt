@@ -11,9 +11,9 @@ use Rattle.messages.specs.declared.message.Message.{Message}
 use Rattle.messages.specs.rule.Epochs.{before_epoch}
 use Rattle.messages.specs.rule.Messages.{greatest_number}
 use Rattle.token_server.specs.declared.token_queue.token_request.TokenRequest.{TokenRequest}
-use Rattle.token_server.specs.declared.known_nodes.node_change.NodeChange.{NodeChange}
-use Rattle.token_server.specs.declared.known_nodes.node_change.NodeChange.TheVariants.{Forgotten, Asked, Answered, Relieved, Reported}
-use Rattle.token_server.specs.declared.known_nodes.node_change.Changed.{Changed}
+use Rattle.token_server.specs.declared.known_nodes.known_change.KnownChange.{KnownChange}
+use Rattle.token_server.specs.declared.known_nodes.known_change.KnownChange.TheVariants.{Forgotten, Asked, Answered, Relieved, Reported}
+use Rattle.token_server.specs.declared.known_nodes.known_change.Changed.{Changed}
 use Rattle.token_server.specs.rule.Rows.{Row, is_hello, is_awaited, row_above}
 use Rattle.token_server.specs.rule.State.{ServerState, awaits, begin, with_row}
 use Rattle.token_server.specs.rule.Serve.{conflicting_node, commanded, granted_to, revoked_from, served, with_more, and_then, each_served}
@@ -26,7 +26,7 @@ empty-told begin incarnation None told = refl
 empty-told begin incarnation (Some row) told = told
 
 -- no change sends a node a Hello
-change-told : (c : NodeChange) (row : Option Row) → is_awaited row ≡ false → is_awaited (row_after c row) ≡ false
+change-told : (c : KnownChange) (row : Option Row) → is_awaited row ≡ false → is_awaited (row_after c row) ≡ false
 change-told (Forgotten incarnation) row told = above-told incarnation row told
 change-told (Asked host begin) row told = empty-told begin host.incarnation (row_above (host.incarnation - 1) row) (above-told (host.incarnation - 1) row told)
 change-told Answered None told = refl

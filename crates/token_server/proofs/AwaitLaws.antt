@@ -11,7 +11,7 @@ use Rattle.token_server.specs.declared.token_queue.active_request.ActiveRequest.
 use Rattle.token_server.specs.rule.Requests.{meets}
 use Rattle.token_server.specs.rule.Actives.{requests_of, waiting_for}
 use Rattle.token_server.specs.declared.known_nodes.row_edit.RowEdit.{RowEdit}
-use Rattle.token_server.specs.declared.known_nodes.node_change.Changed.{Changed}
+use Rattle.token_server.specs.declared.known_nodes.known_change.Changed.{Changed}
 use Rattle.token_server.specs.rule.Rows.{Row, row_conflicts}
 use Rattle.token_server.specs.rule.State.{ServerState}
 use Rattle.token_server.specs.rule.Serve.{conflicting_node}

@@ -1,14 +1,14 @@
 -- What is known of the nodes after a planned edit.
 use Rattle.std.proofs.lemmas.Bool.{lt-ltb}
-use Rattle.std.proofs.lemmas.Bool.Decides.{eqb_tells, nat_tests}
-use Rattle.std.specs.Prelude.{Bool, true, false, cond, ◌≡◌, ◌≢◌, ℕ, ◌+◌, ◌-◌, ◌<◌, ◌≤◌, ◌==◌, ◌&&◌, nat_lt, if◌then◌else◌, List, length, slice_set, slice_index_or, Option, Some, None, MatchOption}
+use Rattle.std.proofs.lemmas.Bool.Decides.{eqb_tells}
+use Rattle.std.specs.Prelude.{Bool, true, false, cond, ◌≡◌, ◌≢◌, ℕ, ◌+◌, ◌-◌, ◌<◌, ◌≤◌, ◌==◌, ◌&&◌, if◌then◌else◌, List, length, slice_set, slice_index_or, Option, Some, None, MatchOption}
 use Rattle.std.proofs.Common.{inl, inr, sym, refl, ap, ◌∙◌, arith}
 use Rattle.std.proofs.lemmas.Option.{slice_get_past}
 use Rattle.model.specs.rule.Limits.{IsNumber}
 use Rattle.token_server.specs.declared.known_nodes.known_node.KnownNode.{KnownNode}
 use Rattle.token_server.specs.declared.known_nodes.row_edit.RowEdit.{RowEdit}
 use Rattle.token_server.specs.declared.known_nodes.token_holder.RowView.{RowView}
-use Rattle.token_server.specs.declared.known_nodes.node_change.Changed.{Changed}
+use Rattle.token_server.specs.declared.known_nodes.known_change.Changed.{Changed}
 use Rattle.token_server.specs.rule.Rows.{Row}
 use Rattle.token_server.specs.rule.RowParts.{row_seen, row_of, dead_of, known_node_at, rows_of, deaths_of}
 use Rattle.token_server.specs.code.Changes.{row_after, dead_after, rows_after, deaths_after}
@@ -59,16 +59,6 @@ deaths_with-there known_nodes place dead within = λ i n. sym (ap (λ (b : Bool)
     and_true : (b : Bool) → (b && true) ≡ b
     and_true true = refl
     and_true false = refl
-
-pub deaths_with-past : (known_nodes : List KnownNode) (place dead : ℕ) → length known_nodes ≤ place → deaths_of known_nodes ≡ deaths_with place dead known_nodes
-deaths_with-past known_nodes place dead past = λ i n. sym (ap (λ (b : Bool). cond (n == place + 1 && b) dead (deaths_of known_nodes n)) (ge-ltb place (length known_nodes) past) ∙ ap (λ (b : Bool). cond b dead (deaths_of known_nodes n)) (and_false (n == place + 1))) i
-  where
-    and_false : (b : Bool) → (b && false) ≡ false
-    and_false true = refl
-    and_false false = refl
-
-    ge-ltb : (k n : ℕ) → n ≤ k → nat_lt k n ≡ false
-    ge-ltb k n past = grind (arith, nat_tests)
 
 -- what is known after the edit that makes a change
 module _ (known_nodes : List KnownNode) (c : Changed) (known_node : KnownNode) (e : RowEdit) (within : IsNumber (length known_nodes) c.node) (there : known_node_at known_nodes c.node ≡ Some known_node) (x : Changes known_node c e) where

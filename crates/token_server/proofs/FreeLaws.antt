@@ -12,9 +12,9 @@ use Rattle.model.specs.declared.level.Level.TheVariants.{Shared, Exclusive}
 use Rattle.token_set.specs.rule.Tokens.{Token, no_token, conflicts, level_conflicts}
 use Rattle.token_set.specs.rule.Releases.{lowered_level, lowered}
 use Rattle.token_set.proofs.SearchLaws.{first-same, some_passes-first, some_passes-from}
-use Rattle.token_server.specs.declared.known_nodes.node_change.NodeChange.{NodeChange}
-use Rattle.token_server.specs.declared.known_nodes.node_change.NodeChange.TheVariants.{Forgotten, Asked, Answered, Relieved, Reported}
-use Rattle.token_server.specs.declared.known_nodes.node_change.Changed.{Changed}
+use Rattle.token_server.specs.declared.known_nodes.known_change.KnownChange.{KnownChange}
+use Rattle.token_server.specs.declared.known_nodes.known_change.KnownChange.TheVariants.{Forgotten, Asked, Answered, Relieved, Reported}
+use Rattle.token_server.specs.declared.known_nodes.known_change.Changed.{Changed}
 use Rattle.token_server.specs.declared.token_queue.active_request.ActiveRequest.{ActiveRequest}
 use Rattle.token_server.specs.declared.token_queue.token_request.TokenRequest.{TokenRequest}
 use Rattle.token_server.specs.rule.Rows.{Row, row_above, row_conflicts}
@@ -71,7 +71,7 @@ or_empty-same : (begin i : ℕ) (o : Option Row) (s : Range) (mode : Mode) → r
 or_empty-same begin i None s mode = none-empty s mode
 or_empty-same begin i (Some row) s mode = refl
 
-pub row_after-fewer : (c : NodeChange) (o : Option Row) (s : Range) (mode : Mode) → may_bar c ≡ false → row_conflicts (row_after c o) s mode ≡ true → row_conflicts o s mode ≡ true
+pub row_after-fewer : (c : KnownChange) (o : Option Row) (s : Range) (mode : Mode) → may_bar c ≡ false → row_conflicts (row_after c o) s mode ≡ true → row_conflicts o s mode ≡ true
 row_after-fewer (Forgotten i) o s mode less h = above-fewer i o s mode h
 row_after-fewer (Asked host begin) o s mode less h = above-fewer (host.incarnation - 1) o s mode (sym (or_empty-same begin host.incarnation (row_above (host.incarnation - 1) o) s mode) ∙ h)
 row_after-fewer Answered None s mode less h = h
@@ -85,7 +85,7 @@ above-same i None kept = refl
 above-same i (Some row) kept = ap (λ (b : Bool). let o : Option Row = cond b None (Some row) in o) kept
 
 -- a row after a change that frees nothing conflicts as before
-pub row_after-same : (c : NodeChange) (o : Option Row) (s : Range) (mode : Mode) → frees c o s ≡ false → row_conflicts (row_after c o) s mode ≡ row_conflicts o s mode
+pub row_after-same : (c : KnownChange) (o : Option Row) (s : Range) (mode : Mode) → frees c o s ≡ false → row_conflicts (row_after c o) s mode ≡ row_conflicts o s mode
 row_after-same (Forgotten i) o s mode kept = ap (λ (x : Option Row). row_conflicts x s mode) (above-same i o kept)
 row_after-same (Asked host begin) o s mode kept =
     or_empty-same begin host.incarnation (row_above (host.incarnation - 1) o) s mode ∙ ap (λ (x : Option Row). row_conflicts x s mode) (above-same (host.incarnation - 1) o kept)
@@ -96,7 +96,7 @@ row_after-same (Relieved span by) (Some row) s mode kept = lowered-elsewhere row
 row_after-same (Reported runs) o s mode kept = absurd (cc)
 
 -- the node that blocks a request, after a change that blocks none: another node stays it, and the changed one too where nothing is freed
-obstacle-less : (s t : ServerState) (r : TokenRequest) (node : ℕ) (c : NodeChange) → may_bar c ≡ false → t.shape.nodes ≡ s.shape.nodes → t.rows ≡ with_change node (row_after c) s.rows → (obstacle s r == node && frees c (s.rows node) r.wanted.required) ≡ false → obstacle t r ≡ obstacle s r
+obstacle-less : (s t : ServerState) (r : TokenRequest) (node : ℕ) (c : KnownChange) → may_bar c ≡ false → t.shape.nodes ≡ s.shape.nodes → t.rows ≡ with_change node (row_after c) s.rows → (obstacle s r == node && frees c (s.rows node) r.wanted.required) ≡ false → obstacle t r ≡ obstacle s r
 obstacle-less s t r node c less nodes rows kept = obstacle-kept s t r nodes fewer here
   where
     own : ℕ → Option Row → Bool
@@ -152,9 +152,9 @@ obstacle-changed s t h c nodes rows waits kept = by c.change refl ∙ waits
     still : may_bar c.change ≡ false → obstacle t h.request ≡ obstacle s h.request
     still less = obstacle-less s t h.request c.node c.change less nodes rows (at less)
 
-    by : (change : NodeChange) → c.change ≡ change → obstacle t h.request ≡ obstacle s h.request
+    by : (change : KnownChange) → c.change ≡ change → obstacle t h.request ≡ obstacle s h.request
     by (Forgotten i) is = still (ap may_bar is)
     by (Asked host begin) is = still (ap may_bar is)
     by Answered is = still (ap may_bar is)
     by (Relieved span mode) is = still (ap may_bar is)
-    by (Reported runs) is = absurd (both_ways (may_turn c (s.rows c.node) h) kept (ap (λ (x : NodeChange). (may_bar x || (h.at == c.node)) && frees x (s.rows c.node) h.request.wanted.required) is))
+    by (Reported runs) is = absurd (both_ways (may_turn c (s.rows c.node) h) kept (ap (λ (x : KnownChange). (may_bar x || (h.at == c.node)) && frees x (s.rows c.node) h.request.wanted.required) is))

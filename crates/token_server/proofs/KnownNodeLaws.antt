@@ -136,25 +136,3 @@ same_known_nodes b known_nodes others these those e f long tells =
     let here : SameKnownNodes these those → SameKnownNodes known_nodes others = λ same. rw (← e, ← f) same in
     let back : SameKnownNodes known_nodes others → SameKnownNodes these those = λ same. rw (e, f) same in
     (λ t. same_rows known_nodes others long (here (tells.0 t)), λ same. tells.1 (back (same_known known_nodes others same)))
-
--- node 0 has no row
-pub rows_of-zero : (known_nodes : List KnownNode) (node : ℕ) → node ≡ 0 → rows_of known_nodes node ≡ None
-unfolding rows_of
-rows_of-zero known_nodes zero e = refl
-rows_of-zero known_nodes (suc k) e = absurd (omega arith)
-
-pub rows_of-past : (known_nodes : List KnownNode) (node : ℕ) → length known_nodes < node → rows_of known_nodes node ≡ None
-unfolding rows_of
-rows_of-past known_nodes zero past = refl
-rows_of-past known_nodes (suc k) past = ap row_of (slice_get_past known_nodes k (omega arith))
-
--- node 0 has no dead incarnation
-pub deaths_of-zero : (known_nodes : List KnownNode) (node : ℕ) → node ≡ 0 → deaths_of known_nodes node ≡ 0
-unfolding deaths_of
-deaths_of-zero known_nodes zero e = refl
-deaths_of-zero known_nodes (suc k) e = absurd (omega arith)
-
-pub deaths_of-past : (known_nodes : List KnownNode) (node : ℕ) → length known_nodes < node → deaths_of known_nodes node ≡ 0
-unfolding deaths_of
-deaths_of-past known_nodes zero past = refl
-deaths_of-past known_nodes (suc k) past = ap dead_of (slice_get_past known_nodes k (omega arith))

@@ -48,11 +48,6 @@ filter-first [] r at distinct = absurd (none-some r at)
 filter-first (q ∷ rs) r at distinct = subst (λ (p : TokenRequest). filter (λ x. not (is_of_call p.call x)) (q ∷ rs) ≡ rs) (same_Some q r at)
     (ap (λ (b : Bool). cond (not b) (q ∷ filter (λ x. not (is_of_call q.call x)) rs) (filter (λ x. not (is_of_call q.call x)) rs)) (same_call-refl q.call) ∙ filter-none q.call rs distinct.0)
 
--- a line without a first request is empty
-pub none-first : (rs : List TokenRequest) → slice_get rs 0 ≡ None → rs ≡ []
-none-first [] none = refl
-none-first (r ∷ rs) none = absurd (none-some r (sym none))
-
 -- a request that passes the test is found, wherever it stands
 find-later : (test : TokenRequest → Bool) (rs : List TokenRequest) (r : TokenRequest) (more : List TokenRequest) → test r ≡ true → find test (rs ++ r ∷ more) ≡ None → ⊥
 find-later test [] r more passes none = none-some r (sym none ∙ ap (λ (b : Bool). cond b (Some r) (find test more)) passes)

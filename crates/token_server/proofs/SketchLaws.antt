@@ -9,10 +9,10 @@ use Rattle.model.specs.rule.Limits.{HostFields}
 use Rattle.model.specs.rule.Owners.{host_of_call}
 use Rattle.messages.specs.rule.Messages.{same_call}
 use Rattle.token_server.specs.declared.token_queue.token_request.TokenRequest.{TokenRequest}
-use Rattle.token_server.specs.declared.known_nodes.node_change.NodeChange.TheVariants.{Asked}
+use Rattle.token_server.specs.declared.known_nodes.known_change.KnownChange.TheVariants.{Asked}
 use Rattle.token_server.specs.declared.sketch.Moved.{Moved}
 use Rattle.token_server.specs.declared.sketch.Moved.TheVariants.{Nothing}
-use Rattle.token_server.specs.declared.known_nodes.node_change.Changed.{Changed}
+use Rattle.token_server.specs.declared.known_nodes.known_change.Changed.{Changed}
 use Rattle.token_server.specs.rule.Requests.{is_of_call, is_up_to}
 use Rattle.token_server.specs.rule.Actives.{requests_of}
 use Rattle.token_server.specs.rule.Rows.{Row, row_above}

@@ -1,26 +1,12 @@
 -- Walks over slots.
-use Rattle.std.specs.Prelude.{◌≤◌, ◌≡◌, ℕ, ◌+◌, ◌<◌, List, [], ◌∷◌, ◌++◌, length, take, drop, Option, Some, None, refl}
-use Rattle.std.specs.Option.{option_eq}
-use Rattle.std.proofs.Common.{ap, sym, ◌∙◌, get_or, arith, Decides}
-use Rattle.std.proofs.lemmas.Grind.{common_steps}
+use Rattle.std.specs.Prelude.{◌≡◌, ℕ, ◌+◌, ◌<◌, List, [], ◌∷◌, ◌++◌, length, take, drop, Option, Some, None}
+use Rattle.std.proofs.Common.{ap, sym, ◌∙◌, get_or}
 use Rattle.std.proofs.lemmas.List.{append-nil, drop_more, take_more, get_or_read, take-append-drop}
-use Rattle.std.proofs.lemmas.Option.{none-some, same_Some}
 use Rattle.token_server.specs.contracts.token_queue.token_request.TokenRequestPartialEq.TheImpl as derived
 use Rattle.token_server.specs.declared.token_queue.token_request.TokenRequest.{TokenRequest}
 use Rattle.token_server.specs.rule.Requests.{requests_in}
 use Rattle.token_server.specs.code.Places.{request_at}
 use Rattle.token_server.proofs.SlotLaws.{requests_in-append}
-
--- the derived `==` of requests is equality
-pub request_eq-Decides : (a b : TokenRequest) → Decides (derived.ghosts.eq a b) (a ≡ b)
-request_eq-Decides a b = grind (arith, common_steps)
-
--- the derived `==` of slots is equality
-pub slot_eq-Decides : (a b : Option TokenRequest) → Decides (option_eq derived.ghosts.eq a b) (a ≡ b)
-slot_eq-Decides None None = (λ h. refl, λ h. refl)
-slot_eq-Decides None (Some b) = (λ h. absurd (none-some b (grind arith)), λ h. absurd (none-some b h))
-slot_eq-Decides (Some a) None = (λ h. absurd (none-some a (grind arith)), λ h. absurd (none-some a (sym h)))
-slot_eq-Decides (Some a) (Some b) = (λ h. ap Some ((request_eq-Decides a b).0 h), λ h. (request_eq-Decides a b).1 (same_Some a b h))
 
 -- the requests from a place on: that of its slot, if it holds one, and then those of later slots
 pub requests_in-from : (slots : List (Option TokenRequest)) (place : ℕ) → place < length slots → requests_in (drop place slots) ≡ requests_in (request_at slots place ∷ drop (place + 1) slots)
@@ -43,10 +29,6 @@ requests_in-empty slots place slot low read none =
     requests_in-more slots place low ∙ ap (λ (s : Option TokenRequest). requests_in (take place slots) ++ requests_in (s ∷ [])) (sym (get_or_read slots place slot low read None) ∙ none)
     ∙ append-nil (requests_in (take place slots))
 
--- the requests from an empty slot on are those behind it
-pub requests_in-skip : (slots : List (Option TokenRequest)) (place : ℕ) → place < length slots → request_at slots place ≡ None → requests_in (drop place slots) ≡ requests_in (drop (place + 1) slots)
-requests_in-skip slots place low none = requests_in-from slots place low ∙ ap (λ (slot : Option TokenRequest). requests_in (slot ∷ drop (place + 1) slots)) none
-
 -- the requests from a slot with a request on: that request, and then those behind it
 pub requests_in-step : (slots : List (Option TokenRequest)) (place : ℕ) (r : TokenRequest) → place < length slots → request_at slots place ≡ Some r → requests_in (drop place slots) ≡ r ∷ requests_in (drop (place + 1) slots)
 requests_in-step slots place r low some = requests_in-from slots place low ∙ ap (λ (slot : Option TokenRequest). requests_in (slot ∷ drop (place + 1) slots)) some
@@ -56,9 +38,3 @@ pub requests_in-around : (slots : List (Option TokenRequest)) (place : ℕ) (r :
     → requests_in slots ≡ requests_in (take place slots) ++ r ∷ requests_in (drop (place + 1) slots)
 requests_in-around slots place r low at =
     ap requests_in (sym (take-append-drop place slots)) ∙ requests_in-append (take place slots) (drop place slots) ∙ ap (λ rs. requests_in (take place slots) ++ rs) (requests_in-step slots place r low at)
-
--- there are at most as many requests as slots
-pub length-requests_in : (slots : List (Option TokenRequest)) → length (requests_in slots) ≤ length slots
-length-requests_in [] = omega arith
-length-requests_in (None ∷ slots) = omega (arith, length-requests_in slots)
-length-requests_in (Some r ∷ slots) = omega (arith, length-requests_in slots)

@@ -54,7 +54,7 @@ impl ServerEdit {
 
 /// A planned step: its change, and its outcome.
 #[derive(Drop)]
-pub struct Change {
+pub struct ServerChange {
     pub edit: ServerEdit,
     pub outcome: Outcome,
 }

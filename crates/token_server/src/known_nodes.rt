@@ -3,10 +3,10 @@
 //! of printed text.
 
 pub mod commands;
+pub mod known_change;
 pub mod known_node;
 pub mod known_nodes;
 pub mod new_row;
-pub mod node_change;
 mod reports;
 pub mod row_edit;
 pub mod server_command;

@@ -3,7 +3,7 @@ ghost use Rattle.std.specs.Prelude.{◌≡◌, Some, None};
 ghost use Rattle.token_server.specs.code.Edits.{many_moved, many_put_off};
 ghost use Rattle.token_server.specs.code.Sketches.{dropped};
 
-use crate::known_nodes::node_change::{Changed, NodeChange};
+use crate::known_nodes::known_change::{Changed, KnownChange};
 use crate::token_queue::line::Line;
 use crate::token_queue::token_request::TokenRequest;
 use model::call::CallId;
@@ -34,7 +34,7 @@ pub struct Sketch {
 
 impl Sketch {
     /// The sketch of a change of the node, a move, and the end of the call's active request, if one is named.
-    pub fn of(node: u8, change: NodeChange, moved: Moved, ended: Option<CallId>) -> Sketch
+    pub fn of(node: u8, change: KnownChange, moved: Moved, ended: Option<CallId>) -> Sketch
         ensures { result ≡ record { changed = Some (record { node = node; change = change }); moved = moved; ended = ended } }
     {
         Sketch {

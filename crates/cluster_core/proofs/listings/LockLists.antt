@@ -78,23 +78,6 @@ more_regions w file i s xs ys zs there named is own listing lists made =
     let regions = subst (λ (x : NodeState). IsListing (x.table.locks file) ys) is listing in
     subst (ListsRegions (first_locks w file (i + 1))) (sym made) (next_regions w file i there named owners xs ys lists regions)
 
--- a node that holds nothing adds none
-pub rests_regions : (w : WorldState) (file i : ℕ) (xs : List LockInfo) → ((o : Owner) → (w.nodes (i + 1)).table.locks file o ≡ nothing) → ListsRegions (first_locks w file i) xs → ListsRegions (first_locks w file (i + 1)) xs
-rests_regions w file i xs none lists = subst (λ (h : FileLocks). ListsRegions h xs) (λ j o. same o j) lists
-  where
-    held : (o : Owner) → o.node ≡ i + 1 → (union w).locks file o ≡ nothing
-    held o is = elim (cases_Bool (is_live w o.node o.incarnation)) [
-      | inl live ↦ rw live (ap (λ (j : ℕ). (w.nodes j).table.locks file o) is ∙ none o)
-      | inr not_live ↦ rw not_live refl
-    ]
-
-    same : (o : Owner) → first_locks w file i o ≡ first_locks w file (i + 1) o
-    same o = elim (cases_order o.node (i + 1)) [
-      | inl is ↦ rw (le-leb o.node (i + 1) (omega (arith, is)), lt-leb o.node i (omega (arith, is))) (sym (held o is))
-      | inr (inl lt) ↦ rw (le-leb o.node (i + 1) (omega arith), le-leb o.node i (omega arith)) refl
-      | inr (inr gt) ↦ rw (lt-leb o.node (i + 1) gt, lt-leb o.node i (omega arith)) refl
-    ]
-
 pub all_regions : (w : WorldState) (file i : ℕ) (xs : List LockInfo) → w.shape.nodes ≤ i → ListsRegions (first_locks w file i) xs → ListsRegions ((union w).locks file) xs
 all_regions w file i xs past lists = subst (λ (h : FileLocks). ListsRegions h xs) (λ j o. all o j) lists
   where

@@ -46,8 +46,7 @@ use Rattle.cluster_core.proofs.history.Prefixes.{leads_one}
 use Rattle.cluster_core.proofs.history.Witnesses.{about_node, called_one, IsAskedBy, asked_one, for_blocking, Backed, HeldFor}
 use Rattle.cluster_core.proofs.history.Worlds.{Good}
 use Rattle.cluster_core.proofs.steps.NodeTokens.{all_among, first_among}
-use Rattle.cluster_core.proofs.rounds.Commands.{revoked_command}
-use Rattle.cluster_core.proofs.rounds.RowsOn.{row_found}
+use Rattle.cluster_core.proofs.steps.ServerRows.{row_found, revokes}
 use Rattle.cluster_core.proofs.steps.Steps.{next_taken, server_step}
 use Rattle.cluster_core.proofs.tokens.Talks.{IsCommandTo, command_host}
 use Rattle.cluster_core.proofs.tokens.Present.{Present}
@@ -126,7 +125,7 @@ module _ (shape : ShapeFields) (is : IsShape shape) (past fs : List Entry) (w v 
 
     command : (m : Message) × (row.outstanding ≡ Some m) × (is_among y.sent m ≡ true) × IsCommandTo file holder.node row.incarnation row.number m × (k ≡ row.number)
     command =
-        let r = revoked_command k mode row.outstanding fits in
+        let r = revokes k mode row.outstanding fits in
         let sent = ((good.1.serves file).talks holder.node).waits row r.command its_row.0 r.waiting in
         (r.command, r.waiting, sent.0, sent.1, r.number file holder.node row.incarnation row.number sent.1)
 

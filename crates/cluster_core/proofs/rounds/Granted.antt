@@ -35,8 +35,7 @@ use Rattle.cluster_core.proofs.steps.Steps.{next_taken}
 use Rattle.cluster_core.proofs.tokens.Talks.{IsCommandTo, command_host}
 use Rattle.cluster_core.proofs.tokens.Present.{Present}
 use Rattle.cluster_core.proofs.runs.Runs.{good_run, every_grant}
-use Rattle.cluster_core.proofs.rounds.Commands.{granted_command}
-use Rattle.cluster_core.proofs.rounds.RowsOn.{row_found}
+use Rattle.cluster_core.proofs.steps.ServerRows.{row_found, awaits_taken}
 use Rattle.cluster_core.proofs.rounds.FirstTaken.{FirstTaken, first_taken}
 use Rattle.cluster_core.proofs.rounds.Kinds.{every_answer}
 use Rattle.cluster_core.proofs.rounds.NodeTries.{grant-answers}
@@ -85,7 +84,7 @@ module _ (shape : ShapeFields) (is : IsShape shape) (past fs : List Entry) (w v 
 
     command : (m : Message) × (row.outstanding ≡ Some m) × (is_among y.sent m ≡ true) × IsCommandTo file id.node row.incarnation row.number m × (k ≡ row.number)
     command =
-        let a = granted_command k row.outstanding fits in
+        let a = awaits_taken k row.outstanding row.token taken fits in
         let sent = ((present.serves file).talks id.node).waits row a.command its_row.0 a.waiting in
         (a.command, a.waiting, sent.0, sent.1, a.number file id.node row.incarnation row.number sent.1)
 

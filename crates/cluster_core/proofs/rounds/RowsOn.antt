@@ -1,9 +1,9 @@
 -- The row of a node goes on in each step of a token server.
-use Rattle.std.specs.Prelude.{◌≡◌, ℕ, ◌+◌, ◌-◌, ◌<◌, ◌≤◌, Bool, true, false, not, cond, ◌&&◌, ◌||◌, ◌==◌, nat_le, List, [], ◌++◌, IfSome, option_map, Option, Some, None, Result, Ok, Err}
+use Rattle.std.specs.Prelude.{◌≡◌, ℕ, ◌+◌, ◌-◌, ◌<◌, ◌≤◌, Bool, true, false, not, cond, ◌&&◌, ◌||◌, nat_le, List, [], ◌++◌, IfSome, option_map, Option, Some, None, Result, Ok, Err}
 use Rattle.std.specs.List.{list_any}
 use Rattle.std.proofs.Common.{refl, sym, ap, subst, ◌∙◌, inl, inr, arith}
-use Rattle.std.proofs.lemmas.Bool.{leb-true, leb-false, eqb-true}
-use Rattle.std.proofs.lemmas.Option.{none-some, same_Some}
+use Rattle.std.proofs.lemmas.Bool.{leb-true, leb-false}
+use Rattle.std.proofs.lemmas.Option.{none-some}
 use Rattle.model.specs.declared.mode.Mode.{Mode}
 use Rattle.model.specs.rule.Owners.{host_of_call}
 use Rattle.members.proofs.Choices.{at_number}
@@ -18,7 +18,7 @@ use Rattle.token_set.specs.rule.Tokens.{Token}
 use Rattle.token_set.specs.rule.Releases.{lowered}
 use Rattle.token_server.specs.declared.token_queue.token_request.TokenRequest.{TokenRequest}
 use Rattle.token_server.specs.rule.Requests.{is_of_call}
-use Rattle.token_server.specs.rule.Rows.{Row, empty_row, row_above, row_of_incarnation, is_hello, is_grant, revoked_mode, asks_token}
+use Rattle.token_server.specs.rule.Rows.{Row, empty_row, row_above, is_hello, is_grant, revoked_mode, asks_token}
 use Rattle.messages.specs.declared.event.ServerInput.TheVariants.{Resend, Learn}
 use Rattle.token_server.specs.declared.event.ServerEvent.TheVariants.{Input, Deliver}
 use Rattle.token_server.specs.rule.State.{ServerState, begin, awaits, forgotten, requeued}
@@ -27,6 +27,7 @@ use Rattle.token_server.specs.rule.Resends.{outstanding, sending_first}
 use Rattle.token_server.specs.rule.Server.{Change, with_a_row, request_of, enqueued_with, enqueued, asked, acknowledged, ended, taken, released, in_conflict, heard, row_of_host, freed, delivered, is_server, then_serve}
 use Rattle.cluster_core.specs.rule.Serving.{RowGoesOn, EachRowGoesOn}
 use Rattle.token_server.proofs.AskedLaws.{each_served-holds}
+use Rattle.cluster_core.proofs.steps.ServerRows.{row_found}
 
 abbrev Answer : Type 0
 Answer = Result (ServerState × List Message) StepError
@@ -35,10 +36,6 @@ Answer = Result (ServerState × List Message) StepError
 pub stays : (o : Option Row) → RowGoesOn o o
 stays None = tt
 stays (Some row) = λ same. record { number = omega arith; command = λ m is. inl (is, refl) }
-
-goes-none : (o : Option Row) → RowGoesOn o None
-goes-none None = tt
-goes-none (Some row) = tt
 
 -- each row of a server goes on
 abbrev AllGoOn : ServerState → ServerState → Type 0
@@ -108,15 +105,6 @@ answered-on : (s : ServerState) (node : ℕ) (row : Row) (token : Token) → s.r
 answered-on s node row token there n = at_number n node (λ b. RowGoesOn (s.rows n) (cond b (Some (record row { token = token; outstanding = None })) (s.rows n)))
     (λ same. subst (λ (o : Option Row). RowGoesOn o (Some (record row { token = token; outstanding = None }))) (sym (ap s.rows same ∙ there)) (λ own. record { number = omega arith; command = λ m is. absurd (none-some m is) }))
     (λ other. stays (s.rows n))
-
--- the row of an incarnation is a row of it
-pub row_found : (i : ℕ) (o : Option Row) (row : Row) → row_of_incarnation i o ≡ Some row → (o ≡ Some row) × (row.incarnation ≡ i)
-row_found i None row h = absurd (none-some row h)
-row_found i (Some x) row h = by (x.incarnation == i) refl h
-  where
-    by : (b : Bool) → (x.incarnation == i) ≡ b → cond b (Some x) None ≡ Some row → (Some x ≡ Some row) × (row.incarnation ≡ i)
-    by true is h = (h, ap (λ (y : Row). y.incarnation) (sym (same_Some x row h)) ∙ eqb-true x.incarnation i is)
-    by false is h = absurd (none-some row h)
 
 abbrev Changes : ServerState → Option Change → Type 0
 Changes s o = IfSome o (λ changed. AllGoOn s changed.0)

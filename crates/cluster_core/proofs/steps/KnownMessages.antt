@@ -5,7 +5,7 @@ use Rattle.std.proofs.Math.Seq.{take-append_seam}
 use Rattle.std.proofs.lemmas.Bool.{or_cases, or_left, or_right, both_ways, eqb-true, eq-eqb}
 use Rattle.std.proofs.lemmas.List.{take_all, take_more}
 use Rattle.std.proofs.lemmas.List.Folds.{list_any-append}
-use Rattle.std.proofs.lemmas.List.Elements.{All-nil, All-head, All-tail, All-push, All-weaker}
+use Rattle.std.proofs.lemmas.List.Elements.{All-head, All-tail, All-push, All-weaker}
 use Rattle.std.proofs.lemmas.Option.{get_or_from_slice_get, slice_get_within, slice_get_past, slice_get-get_or}
 use Rattle.std.specs.Prelude.{IsTrue, ◌↔◌}
 use Rattle.std.specs.HashMap.{get, Updates as Places_Updates}
@@ -33,14 +33,6 @@ among_there (x ∷ xs) zero m there =
     let same : x ≡ m = cc in
     or_left (same_message m x) (is_among xs m) ((same_message-is-equality m x).1 (sym same))
 among_there (x ∷ xs) (suc k) m there = or_right (same_message m x) (is_among xs m) (among_there xs k m there)
-
--- an index of no messages
-pub knows_none : (places : Places) → ((f : ℕ) → get nat_eq places f ≡ None) → KnowsFirst places [] [] 0
-knows_none places none = record {
-  finds = λ q. ap (λ (o : Option ℕ). stands_at [] q o || false) (none (fingerprint q));
-  before = λ f k found. absurd (let no = none f in cc);
-  others_before = All-nil (λ k. k < 0);
-}
 
 -- what the index has of one message
 same_truth : (r s : Bool) → (r ≡ true → s ≡ true) → (s ≡ true → r ≡ true) → r ≡ s
@@ -200,9 +192,6 @@ knows_start places others sent more known = record {
   before = known.before;
   others_before = known.others_before;
 }
-
-pub knows_all : (places : Places) (others : Others) (sent : List Message) (q : Message) → Knows places others sent → has places others sent q ≡ is_among sent q
-knows_all places others sent q known = known.finds q ∙ ap (λ (xs : List Message). is_among xs q) (take_all (length sent) sent (omega arith))
 
 -- an index with the same places and others, and then with the messages that were added
 pub knows_more : (places middle next : Places) (others between rest : Others) (sent more all slice : List Message) (start : ℕ) → SaysTheSame places others middle between → Knows places others sent → slice ≡ all → all ≡ sent ++ more → start ≡ length sent → (KnowsFirst middle between slice start → Knows next rest slice) → Knows next rest all

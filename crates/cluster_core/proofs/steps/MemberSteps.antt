@@ -5,8 +5,7 @@ use Rattle.std.specs.Option.{is_some}
 use Rattle.std.proofs.lemmas.Bool.Decides.{nat_tests}
 use Rattle.std.proofs.lemmas.List.{length-set}
 use Rattle.std.proofs.lemmas.Option.{none-some}
-use Rattle.intervals.specs.rule.Bytes.{IsRun, nothing}
-use Rattle.model.specs.declared.owner.Owner.{Owner}
+use Rattle.intervals.specs.rule.Bytes.{IsRun}
 use Rattle.messages.specs.rule.Messages.{is_within, sending}
 use Rattle.messages.specs.declared.message.Message.{Message}
 use Rattle.messages.specs.declared.event.Event.{Event}
@@ -246,6 +245,3 @@ dead_token p n dead t is =
     let run = subst (λ (k : ℕ). IsRun (((world_state p).nodes k).files t.file).token t.span t.level) is.1 is.0.run in
     let none : (((world_state p).nodes n).files t.file).token t.span.lo ≡ None = ap (λ (b : Bool). ((seated p.shape n b (listed p n)).files t.file).token t.span.lo) dead in
     none-some t.level (sym none ∙ run.all t.span.lo (omega arith) run.ordered)
-
-pub dead_locks : (p : WorldParts) (n file : ℕ) (o : Owner) → alive_at p n ≡ false → ((world_state p).nodes n).table.locks file o ≡ nothing
-dead_locks p n file o dead = ap (λ (b : Bool). (seated p.shape n b (listed p n)).table.locks file o) dead

@@ -79,7 +79,7 @@ pub record Awaits (k : ℕ) (outstanding : Option Message) (old : Token) (answer
   pub number : (file n i l : ℕ) → IsCommandTo file n i l command → k ≡ l
   pub token : settled old command answer ≡ new
 
-awaits_taken : (k : ℕ) (o : Option Message) (t : Token) (answer : Message) → is_grant k o ≡ true → Awaits k o t answer t
+pub awaits_taken : (k : ℕ) (o : Option Message) (t : Token) (answer : Message) → is_grant k o ≡ true → Awaits k o t answer t
 awaits_taken k (Some (Grant f l call mode span)) t answer h = record { command = Grant f l call mode span; waiting = refl; plain = refl; number = λ file n i j to. sym (eqb-true l k h) ∙ to.1; token = refl }
 awaits_taken k None t answer h = absurd (cc)
 awaits_taken k (Some m) t answer h = absurd (cc)
@@ -93,7 +93,7 @@ pub record Revokes (k : ℕ) (mode : Mode) (o : Option Message) : Type 0 where
   pub lowers : (t : Token) (f l : ℕ) (h : Host) (c : CallId) (span : Range) → settled t command (Released f l h c span) ≡ lowered t span mode
   pub keeps : (t : Token) (f l : ℕ) (h : Host) (c : CallId) (lock : LockInfo) → settled t command (Conflict f l h c lock) ≡ t
 
-revokes : (k : ℕ) (mode : Mode) (o : Option Message) → revoked_mode k o ≡ Some mode → Revokes k mode o
+pub revokes : (k : ℕ) (mode : Mode) (o : Option Message) → revoked_mode k o ≡ Some mode → Revokes k mode o
 revokes k mode (Some (Revoke f l holder call m wanted)) h =
     elim (l == k) as (λ b. (l == k) ≡ b → (if b then Some m else None) ≡ Some mode → Revokes k mode (Some (Revoke f l holder call m wanted))) [
       | true ↦ λ is h. record {
@@ -276,7 +276,7 @@ same_shape t call None = refl
 same_shape t call (Some row) = refl
 
 -- the row of an incarnation is a row of it
-row_found : (i : ℕ) (o : Option Row) (row : Row) → row_of_incarnation i o ≡ Some row → (o ≡ Some row) × (row.incarnation ≡ i)
+pub row_found : (i : ℕ) (o : Option Row) (row : Row) → row_of_incarnation i o ≡ Some row → (o ≡ Some row) × (row.incarnation ≡ i)
 row_found i None row h = absurd (none-some row h)
 row_found i (Some x) row h =
     elim (x.incarnation == i) as (λ b. (x.incarnation == i) ≡ b → (if b then Some x else None) ≡ Some row → (Some x ≡ Some row) × (row.incarnation ≡ i)) [

@@ -22,13 +22,13 @@ use Rattle.node_core.specs.declared.event.NodeEvent.{NodeEvent}
 use Rattle.node_core.specs.declared.event.NodeEvent.TheVariants as node
 use Rattle.node_core.specs.rule.Commands.{is_node}
 use Rattle.node_core.specs.rule.Parts.{NodeParts, node_state}
-use Rattle.node_core.specs.declared.change.Change.{Change as NodeChange}
+use Rattle.node_core.specs.declared.change.NodeChange.{NodeChange}
 use Rattle.node_core.specs.code.Plans.{Fits, planned}
 use Rattle.node_core.specs.rule.State.{NodeState, first_node}
 use Rattle.node_core.specs.rule.Node.{node_rule}
 use Rattle.token_server.specs.rule.Parts.{ServerParts, server_state}
 use Rattle.token_server.specs.declared.event.ServerEvent.{ServerEvent}
-use Rattle.token_server.specs.declared.change.Change.{Change as ServerChange}
+use Rattle.token_server.specs.declared.change.ServerChange.{ServerChange}
 use Rattle.token_server.specs.code.Edits.{Fits as ServerFits, planned as after_edit}
 use Rattle.token_server.specs.rule.State.{ServerState, first_server}
 use Rattle.token_server.specs.rule.Server.{server_rule}

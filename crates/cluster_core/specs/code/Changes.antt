@@ -7,13 +7,13 @@ use Rattle.messages.specs.declared.event.Event.{Event}
 use Rattle.messages.specs.declared.message.Message.{Message}
 use Rattle.messages.specs.declared.entry.Entry.{Entry}
 use Rattle.members.specs.rule.Parts.{incarnation_in}
-use Rattle.node_core.specs.declared.change.Change.{Change as NodeChange}
+use Rattle.node_core.specs.declared.change.NodeChange.{NodeChange}
 use Rattle.node_core.specs.declared.event.NodeEvent.{NodeEvent}
 use Rattle.node_core.specs.rule.Node.{node_rule}
 use Rattle.node_core.specs.rule.Parts.{NodeParts, node_state}
 use Rattle.node_core.specs.code.Plans.{Fits, planned as reached}
 use Rattle.node_core.specs.rule.State.{first_node}
-use Rattle.token_server.specs.declared.change.Change.{Change as ServerChange}
+use Rattle.token_server.specs.declared.change.ServerChange.{ServerChange}
 use Rattle.token_server.specs.declared.event.ServerEvent.{ServerEvent}
 use Rattle.token_server.specs.code.Edits.{planned, Fits as ServerFits}
 use Rattle.token_server.specs.rule.Parts.{ServerParts, server_state}

@@ -14,7 +14,8 @@ ghost use Rattle.cluster_core.specs.rule.Next.{is_known, next_server, restart_ru
 ghost use Rattle.cluster_core.specs.rule.Parts.{world_state};
 ghost use Rattle.cluster_core.specs.rule.Actors.{HasNode, HasServer};
 
-use super::{JOURNAL_LIMIT, World, is_number};
+use super::events::is_number;
+use super::{JOURNAL_LIMIT, World};
 use messages::entry::Entry;
 use messages::event::{Event, MemberEvent};
 use messages::items::Items;

@@ -1,9 +1,9 @@
 //! The change that an event makes in a world, as it is planned.
 use messages::items::Items;
 use messages::message::Message;
-use node_core::change::Change as NodeChange;
+use node_core::change::NodeChange;
 use node_core::node::Node;
-use token_server::change::Change as ServerChange;
+use token_server::change::ServerChange;
 use token_server::server::Server;
 
 /// The change that an event makes in a world: the step of the one actor that takes it.

@@ -10,8 +10,8 @@ use Rattle.cluster_core.specs.rule.Runs.{Leads}
 use Rattle.journal_text.specs.rule.Readings.{answer_lines}
 use Rattle.diagnosis.specs.declared.difference.Difference.{Difference}
 use Rattle.diagnosis.specs.declared.difference.Difference.TheVariants.{Name, Answer, Send}
-use Rattle.diagnosis.specs.declared.wrong_entry.Made.{Made}
-use Rattle.diagnosis.specs.declared.wrong_entry.Made.TheVariants.{Refused, Other}
+use Rattle.diagnosis.specs.declared.wrong_entry.MadeInstead.{MadeInstead}
+use Rattle.diagnosis.specs.declared.wrong_entry.MadeInstead.TheVariants.{Refused, Other}
 use Rattle.diagnosis.specs.declared.wrong_entry.WrongEntry.{WrongEntry}
 
 -- the lists are equal before this place, from 1, and differ there, where one of them may have ended
@@ -31,7 +31,7 @@ DifferIn made found Answer = (names_of made ≡ names_of found) × (made.reply �
 DifferIn made found (Send place) = (names_of made ≡ names_of found) × (made.reply ≡ found.reply) × DifferFirstAt made.sends found.sends place
 
 -- what the rule makes of the entry's event in this world: it refuses it so, or makes another entry, which differs first in this
-abbrev pub IsMade : WorldState → Entry → Made → Type 0
+abbrev pub IsMade : WorldState → Entry → MadeInstead → Type 0
 IsMade w found (Refused refusal) = kept_next w found.event ≡ Err refusal
 IsMade w found (Other made difference) = (v : WorldState) × (kept_next w found.event ≡ Ok (v, made)) × DifferIn made found difference
 

@@ -1,5 +1,5 @@
 -- What an index of pages says: which owners may hold bytes of which pages, and in which files.
-use Rattle.std.specs.Prelude.{◌≡◌, ℕ, ◌+◌, ◌-◌, ◌*◌, ◌/◌, ◌%◌, ◌⊎◌, Some, length, get_or, []}
+use Rattle.std.specs.Prelude.{◌≡◌, ℕ, ◌+◌, ◌-◌, ◌*◌, ◌/◌, ◌%◌, ◌<◌, ◌⊎◌, Some, length, get_or, []}
 use Rattle.std.specs.Int.{bit_at}
 use Rattle.model.specs.rule.Limits.{IsNumber}
 use Rattle.model.specs.rule.Locks.{Locks}
@@ -21,17 +21,17 @@ pub record HasFlag (s : FlagSet) (flag : ℕ) : Type 0 where
 abbrev pub Has : OwnerSet → Owner → Type 0
 Has s o = HasFlag s.flags (flag_of o)
 
--- the place of a page's set of owners, which the page shares with other pages
-abbrev pub slot_of : ℕ → ℕ → ℕ
-slot_of file page = (page + file * 1031) % 32768
+-- the place of a page's set of owners among so many sets, which the page shares with other pages
+abbrev pub slot_of : ℕ → ℕ → ℕ → ℕ
+slot_of sets file page = (page + file * 1031) % sets
 
 -- the index has memory
 abbrev pub IsKept : PageIndex → Type 0
-IsKept x = (length x.sets.items ≡ 32768) × (length x.files.items ≡ 256)
+IsKept x = (0 < length x.sets.items) × (length x.files.items ≡ 256)
 
 -- the set of the page has the owner
 abbrev pub HasPage : PageIndex → ℕ → Owner → ℕ → Type 0
-HasPage x file o page = Has (get_or x.sets.items (slot_of file page) x.long) o
+HasPage x file o page = Has (get_or x.sets.items (slot_of (length x.sets.items) file page) x.long) o
 
 abbrev pub no_flags : FlagSet
 no_flags = record { words = [] }

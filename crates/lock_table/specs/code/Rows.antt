@@ -1,5 +1,5 @@
 -- The rows of a lock table, and the locks that they hold.
-use Rattle.std.specs.Prelude.{◌≡◌, ◌≢◌, ℕ, zero, suc, ◌<◌, ◌≤◌, ◌⊎◌, false, Option, None, length, get_or, List, [], ◌∷◌}
+use Rattle.std.specs.Prelude.{◌≡◌, ◌≢◌, ℕ, zero, suc, ◌+◌, ◌*◌, ◌/◌, ◌%◌, ◌<◌, ◌≤◌, ◌⊎◌, false, Option, None, length, get_or, List, [], ◌∷◌}
 use Rattle.std.specs.Ordering.{nat_cmp, ordering_then}
 use Rattle.std.specs.declared.cmp.Ordering.{Ordering}
 use Rattle.std.specs.declared.cmp.Ordering.TheVariants.{Less, Equal, Greater}
@@ -10,6 +10,8 @@ use Rattle.model.specs.rule.Owners.{same_owner, owner_cmp}
 use Rattle.model.specs.declared.mode.Mode.{Mode}
 use Rattle.model.specs.declared.owner.Owner.{Owner}
 use Rattle.lock_table.specs.declared.owner_locks.OwnerLocks.{OwnerLocks}
+use Rattle.lock_table.specs.declared.owner_set.OwnerSet.{OwnerSet}
+use Rattle.lock_table.specs.code.Pages.{flag_of, Has}
 
 -- the locks that the rows hold: the first row of an owner in a file has its bytes
 unfoldable pub rows_held : List OwnerLocks → Locks
@@ -30,9 +32,13 @@ pub record IsSameTable (a b : TableParts) : Type 0 where
   pub locks : held a ≡ held b
   pub limit : a.limit ≡ b.limit
 
--- how a row stands to the place of an owner in a file: by file, then by owner
+-- the number by which rows stand: by file, and in a file by the flag of the owner
+abbrev pub mark_of : ℕ → Owner → ℕ
+mark_of file owner = file * 256 + flag_of owner
+
+-- how a row stands to the place of an owner in a file: by file, then by flag, then by owner
 abbrev pub row_cmp : OwnerLocks → ℕ → Owner → Ordering
-row_cmp r file owner = ordering_then (nat_cmp r.file file) (owner_cmp r.owner owner)
+row_cmp r file owner = ordering_then (nat_cmp (mark_of r.file r.owner) (mark_of file owner)) (owner_cmp r.owner owner)
 
 -- no byte past the greatest offset is held
 abbrev pub IsBounded : (ℕ → Option Mode) → Type 0
@@ -52,7 +58,7 @@ abbrev pub AllAfter : ℕ → Owner → List OwnerLocks → Type 0
 AllAfter file owner [] = Unit {0}
 AllAfter file owner (r ∷ rest) = (row_cmp r file owner ≡ Greater) × AllAfter file owner rest
 
--- the rows stand by file and then by owner, with at most one for an owner in a file, and each row holds some byte
+-- the rows stand by file, flag and owner, with at most one for an owner in a file, and each row holds some byte
 abbrev pub AreRows : List OwnerLocks → Type 0
 AreRows [] = Unit {0}
 AreRows (r ∷ rest) = HoldsSome (value_at r.spans) × AllAfter r.file r.owner rest × AreRows rest
@@ -69,9 +75,13 @@ IsGap rows zero file owner = AllAfter file owner rows
 IsGap [] (suc i) file owner = ⊥
 IsGap (r ∷ rest) (suc i) file owner = (row_cmp r file owner ≡ Less) × IsGap rest i file owner
 
--- if the owner has no row in the file, the capacity is enough for one more row
+-- the number of places that a table has at least for so many rows: a multiple of 64
+abbrev pub places_for : ℕ → ℕ
+places_for n = (n + 63) / 64 * 64
+
+-- if the owner has no row in the file, and the rows may fill all places, the capacity is enough for 64 more
 abbrev pub HasRoom : List OwnerLocks → ℕ → Owner → ℕ → Type 0
-HasRoom rows file owner capacity = (i : ℕ) → IsGap rows i file owner → length rows < capacity
+HasRoom rows file owner capacity = (i : ℕ) → IsGap rows i file owner → length rows % 64 ≡ 0 → length rows + 64 ≤ capacity
 
 -- the owner's row in the file, if there is one, has at most `most` runs
 abbrev pub HasRuns : List OwnerLocks → ℕ → Owner → ℕ → Type 0
@@ -91,3 +101,7 @@ pub record IsSameRow (a b : OwnerLocks) : Type 0 where
 pub record HoldsLess (owner : Owner) (before after : Locks) : Type 0 where
   pub own : (f : ℕ) → (after f owner ≡ nothing) ⊎ (after f owner ≡ before f owner)
   pub others : (f : ℕ) (o : Owner) → same_owner owner o ≡ false → after f o ≡ before f o
+
+-- the set has no owner of the rows from place i up to place j
+abbrev pub ArePassed : List OwnerLocks → OwnerSet → ℕ → ℕ → Type 0
+ArePassed rows near i j = (k : ℕ) (row : OwnerLocks) → i ≤ k → k < j → row ≡ get_or rows k row → Has near row.owner → ⊥

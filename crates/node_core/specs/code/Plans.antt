@@ -1,5 +1,5 @@
 -- What a planned step changes of a node.
-use Rattle.std.specs.Prelude.{◌≡◌, ℕ, ◌+◌, ◌-◌, ◌<◌, ◌==◌, Bool, true, false, not, if◌then◌else◌, List, [], ◌∷◌, ◌++◌, All, filter, length, Option, Some, None}
+use Rattle.std.specs.Prelude.{◌≡◌, ℕ, ◌+◌, ◌-◌, ◌<◌, ◌==◌, Bool, true, false, not, if◌then◌else◌, List, [], ◌∷◌, ◌++◌, All, filter, length, Option, Some, None, Box}
 use Rattle.std.specs.List.{slice_get}
 use Rattle.std.specs.Vec.{vec_capacity}
 use Rattle.model.specs.declared.host.Host.{Host}
@@ -47,6 +47,11 @@ abbrev pub row_after : Option FileRow → FileEdit → FileState
 row_after None e = first_file
 row_after (Some r) e = file_after r e
 
+-- the change in the box, if there is one
+abbrev pub edit_in : {Z : Type 0} → Option (Box FileEdit Z) → Option FileEdit
+edit_in None = None
+edit_in (Some boxed) = Some boxed.value
+
 -- what the node knows of each file after a command's change, if there is one
 abbrev pub files_after : (ℕ → FileState) → List FileRow → Option FileEdit → ℕ → FileState
 files_after files rows None = files
@@ -65,7 +70,7 @@ files_told files (file ∷ more) = files_told (told files file) more
 abbrev pub table_after : Host → Table → NodeTableEdit → Table
 table_after h t Nothing = t
 table_after h t (OfProcess e) = with_processes t (process_at h 0) (edited (t.on h.node h.incarnation) e)
-table_after h t (OfLocks e) = record t { locks = with_lock t.locks e.file e.owner e.write.span e.write.value }
+table_after h t (OfLocks boxed) = let e = boxed.value in record t { locks = with_lock t.locks e.file e.owner e.write.span e.write.value }
 table_after h t (Closes pid fd) = closed_if t (process_at h pid) fd (descriptor t (process_at h pid) fd)
 table_after h t (Exits pid) = exited t (process_at h pid)
 
@@ -78,7 +83,11 @@ pending_after calls (Left pid number) = filter (λ c. not (c.number == number)) 
 
 -- the state in which a call is tried: the node after the draft
 abbrev pub drafted : NodeParts → NodeDraft → NodeState
-drafted p d = record (node_state p) { calls = calls_after (node_state p).calls d.numbered; files = files_after (node_state p).files p.files d.command }
+drafted p d = record (node_state p) { calls = calls_after (node_state p).calls d.numbered; files = files_after (node_state p).files p.files (edit_in d.command) }
+
+-- the node after a command's change at its file
+abbrev pub commanded : NodeParts → FileEdit → NodeState
+commanded p e = record (node_state p) { files = files_after (node_state p).files p.files (Some e) }
 
 -- the open calls, with the call that is tried if it is new
 abbrev pub opened_if : Bool → List OpenCall → OpenCall → List OpenCall
@@ -113,13 +122,14 @@ CommandFits files None = Unit {0}
 CommandFits files (Some e) = IsNumber files e.file
 
 abbrev pub DraftFits : NodeParts → NodeDraft → Type 0
-DraftFits p d = NumberFits (node_state p).calls d.numbered × CommandFits (node_state p).shape.files d.command
+DraftFits p d = NumberFits (node_state p).calls d.numbered × CommandFits (node_state p).shape.files (edit_in d.command)
 
 -- the change of processes and locks can be made: rows are as planned, a new one has room, and a process that closes descriptors runs
 abbrev pub RowsFit : List ProcessEntry → TableParts → NodeTableEdit → Type 0
 RowsFit rows locks Nothing = Unit {0}
 RowsFit rows locks (OfProcess e) = ProcessFits rows e
-RowsFit rows locks (OfLocks e) =
+RowsFit rows locks (OfLocks boxed) =
+    let e = boxed.value in
     (e.room.items ≡ []) × HasRowRoom locks.rows e.file e.owner (vec_capacity e.room) × HasRuns locks.rows e.file e.owner e.write.runs
 RowsFit rows locks (Closes pid fd) = IsNumber most_processes pid × ((processes rows).runs pid ≡ true)
 RowsFit rows locks (Exits pid) = IsNumber most_processes pid × ((processes rows).runs pid ≡ true)

@@ -11,7 +11,7 @@ ghost use Rattle.node_core.specs.rule.Parts.{node_state, asked, IsOwn, IsSpan};
 ghost use Rattle.node_core.specs.code.Plans.{numbered, table_after, planned, effect_of, TableFits, PartsFit};
 
 use super::Node;
-use crate::change::Change;
+use crate::change::NodeChange;
 use crate::effect::Effect;
 use crate::node_edit::{NodeDraft, NodeTableEdit};
 use crate::numbers::is_pid;
@@ -239,7 +239,12 @@ impl Node {
     }
 
     // Plans the step of a process's call, if the process has no open call or exits.
-    pub(super) fn plan_call(&self, alloc: Global, pid: u16, op: &Op) -> Result<Change, StepError>
+    pub(super) fn plan_call(
+        &self,
+        alloc: Global,
+        pid: u16,
+        op: &Op,
+    ) -> Result<NodeChange, StepError>
         ensures ok { IfOk result (λ change. call_rule (node_state self.now) pid op.now ≡ Ok (planned self.now change.edit, change.outcome)) }
         ensures err { IfErr result (λ error. error ≢ StepError.NoMemory → call_rule (node_state self.now) pid op.now ≡ Err error) }
         ensures refused { (r : StepError) → call_rule (node_state self.now) pid op.now ≡ Err r → result ≡ Err r }
@@ -259,7 +264,7 @@ impl Node {
     }
 
     // Plans the step that tries the open call of the process again, with its own number.
-    pub(super) fn plan_retry(&self, alloc: Global, pid: u16) -> Result<Change, StepError>
+    pub(super) fn plan_retry(&self, alloc: Global, pid: u16) -> Result<NodeChange, StepError>
         ensures ok { IfOk result (λ change. retry_rule (node_state self.now) pid ≡ Ok (planned self.now change.edit, change.outcome)) }
         ensures err { IfErr result (λ error. error ≢ StepError.NoMemory → retry_rule (node_state self.now) pid ≡ Err error) }
         ensures refused { (r : StepError) → retry_rule (node_state self.now) pid ≡ Err r → result ≡ Err r }

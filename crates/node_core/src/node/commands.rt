@@ -9,16 +9,15 @@ ghost use Rattle.node_core.specs.rule.Answers.{answer_of};
 ghost use Rattle.node_core.specs.rule.Commands.{in_epoch, remembered, in_order, granted, revoked, told, denied, delivered, deliver_rule};
 ghost use Rattle.node_core.specs.rule.State.{host};
 ghost use Rattle.node_core.specs.rule.Parts.{node_state, after_grant, after_revoke, out_of_order, is_for, IsCallOf};
-ghost use Rattle.node_core.specs.code.Plans.{drafted, planned, effect_of, CommandFits, DraftFits, PartsFit};
+ghost use Rattle.node_core.specs.code.Plans.{commanded, drafted, planned, effect_of, CommandFits, DraftFits, PartsFit};
 
 use super::Node;
-use crate::change::Change;
+use crate::change::NodeChange;
 use crate::effect::Effect;
-use crate::file_row::FileEdit;
+use crate::file_row::{FileEdit, runs_of};
 use crate::node_edit::{NodeDraft, NodeEdit};
 use crate::numbers::{is_node, is_within};
 use crate::open_call::{OpenCall, refusal_of};
-use crate::report::runs_of;
 use crate::token_command::TokenCommand;
 use intervals::span::Span;
 use messages::epoch_number::EpochNumber;
@@ -35,7 +34,7 @@ impl Node {
     // file.
     fn enter(&self, file: u16, number: u64) -> FileEdit
         requires { IsNumber (node_state self.now).shape.files file }
-        ensures state { drafted self.now (record { numbered = false; command = Some result }) ≡ in_epoch (node_state self.now) file number }
+        ensures state { commanded self.now result ≡ in_epoch (node_state self.now) file number }
         ensures last { result.last ≡ ((in_epoch (node_state self.now) file number).files file).last }
         ensures answer { answer_of result.answer ≡ ((in_epoch (node_state self.now) file number).files file).answer }
         ensures fits { CommandFits (node_state self.now).shape.files (Some result) }
@@ -43,14 +42,24 @@ impl Node {
         self.file(file).plan_renewal(file, number)
     }
 
+    // The draft of a command that changes its file so.
+    fn draft_of(&self, alloc: Global, edit: FileEdit) -> Result<NodeDraft, AllocError>
+        requires { CommandFits (node_state self.now).shape.files (Some edit) }
+        ensures state { IfOk result (λ draft. drafted self.now draft ≡ commanded self.now edit) }
+        ensures old { IfOk result (λ draft. draft.numbered ≡ false) }
+        ensures fits { IfOk result (DraftFits self.now) }
+    {
+        Ok(NodeDraft::of_command(Box::new(alloc, edit)?))
+    }
+
     // Sends the answer to the last command again, after the file is changed to `known`.
     fn remembered(&self, alloc: Global, known: FileEdit) -> Result<Effect, AllocError>
         requires { CommandFits (node_state self.now).shape.files (Some known) }
-        ensures value { IfOk result (λ effect. remembered (drafted self.now (record { numbered = false; command = Some known })) (answer_of known.answer) ≡ effect_of self.now effect) }
+        ensures value { IfOk result (λ effect. remembered (commanded self.now known) (answer_of known.answer) ≡ effect_of self.now effect) }
         ensures fits { IfOk result (λ effect. PartsFit self.now effect.edit) }
     {
         let answer = known.answer;
-        let edit = NodeEdit::of(alloc, NodeDraft::of_command(known));
+        let edit = NodeEdit::of(alloc, self.draft_of(alloc, known)?);
         match answer {
             None => Ok(Effect::quiet(alloc, edit)),
             Some(answer) => Effect::sent(alloc, edit, answer.message()),
@@ -76,21 +85,26 @@ impl Node {
         let number = command.number.get();
         let known = self.enter(command.file.get(), number);
         if number != known.last {
-            return Ok(Effect::quiet(alloc, NodeEdit::of(alloc, NodeDraft::of_command(known))));
+            return Ok(Effect::quiet(alloc, NodeEdit::of(alloc, self.draft_of(alloc, known)?)));
         }
         self.remembered(alloc, known)
     }
 
     // Plans what a grant changes: the token is raised, the command is done, and its answer is
     // remembered.
-    fn raise(&self, command: &TokenCommand, span: Span) -> Result<NodeDraft, AllocError>
+    fn raise(
+        &self,
+        alloc: Global,
+        command: &TokenCommand,
+        span: Span,
+    ) -> Result<NodeDraft, AllocError>
         requires { IsNumber (node_state self.now).shape.files command.now.file }
         ensures state { IfOk result (λ draft. drafted self.now draft ≡ after_grant (node_state self.now) command.now span) }
         ensures old { IfOk result (λ draft. draft.numbered ≡ false) }
         ensures fits { IfOk result (DraftFits self.now) }
     {
         let edit = self.file(command.file.get()).plan_grant(command, span)?;
-        Ok(NodeDraft::of_command(edit))
+        self.draft_of(alloc, edit)
     }
 
     // Takes a grant. If it is the next command the token is raised, and the call that it is for is
@@ -103,10 +117,10 @@ impl Node {
         if !self.is_next(command) {
             return self.on_out_of_order(alloc, command);
         }
-        let draft = self.raise(command, span)?;
+        let draft = self.raise(alloc, command, span)?;
         let waiting = self.open_call(command.call.number);
         let effect = self.try_if(alloc, draft, waiting)?;
-        effect.after(alloc, command.taken().message())
+        effect.with_first(alloc, command.taken().message())
     }
 
     // The answer to a revoke: a span around the required bytes that is given up, or a lock in the
@@ -129,6 +143,7 @@ impl Node {
     // command is done, and its answer is remembered.
     fn give_up(
         &self,
+        alloc: Global,
         command: &TokenCommand,
         wanted: Wanted,
     ) -> Result<(GaveUp, NodeDraft), AllocError>
@@ -140,7 +155,7 @@ impl Node {
         let gives = self.gives(command, wanted);
         let row = self.file(command.file.get());
         let edit = row.plan_revoke(command, self.host(), &gives)?;
-        Ok((gives, NodeDraft::of_command(edit)))
+        Ok((gives, self.draft_of(alloc, edit)?))
     }
 
     // Takes a revoke. If it is the next command the token is given up as far as no lock is in the
@@ -158,7 +173,7 @@ impl Node {
         if !self.is_next(command) {
             return self.on_out_of_order(alloc, command);
         }
-        let (gives, draft) = self.give_up(command, wanted)?;
+        let (gives, draft) = self.give_up(alloc, command, wanted)?;
         Effect::sent(
             alloc,
             NodeEdit::of(alloc, draft),
@@ -198,7 +213,7 @@ impl Node {
     {
         let known = self.enter(file.get(), number.get());
         let is_begun = number.get() != known.last;
-        let edit = NodeEdit::of(alloc, NodeDraft::of_command(known));
+        let edit = NodeEdit::of(alloc, self.draft_of(alloc, known)?);
         if is_begun {
             return Ok(Effect::quiet(alloc, edit));
         }
@@ -277,7 +292,11 @@ impl Node {
     }
 
     // Plans the step of a message. A message for another incarnation of the node does nothing.
-    pub(super) fn plan_message(&self, alloc: Global, message: &Message) -> Result<Change, StepError>
+    pub(super) fn plan_message(
+        &self,
+        alloc: Global,
+        message: &Message,
+    ) -> Result<NodeChange, StepError>
         ensures ok { IfOk result (λ change. deliver_rule (node_state self.now) message.now ≡ Ok (planned self.now change.edit, change.outcome)) }
         ensures err { IfErr result (λ error. error ≢ StepError.NoMemory → deliver_rule (node_state self.now) message.now ≡ Err error) }
         ensures refused { (r : StepError) → deliver_rule (node_state self.now) message.now ≡ Err r → result ≡ Err r }

@@ -5,7 +5,7 @@ ghost use Rattle.node_core.specs.rule.Parts.{node_state, IsCallOf};
 ghost use Rattle.node_core.specs.code.Plans.{planned, effect_of, PartsFit};
 
 use super::Node;
-use crate::change::Change;
+use crate::change::NodeChange;
 use crate::effect::Effect;
 use crate::node_edit::NodeEdit;
 use crate::numbers::is_pid;
@@ -27,7 +27,7 @@ impl Node {
     }
 
     // Plans the step that interrupts the wait of the process. Takes no memory.
-    pub(super) fn plan_interrupt(&self, alloc: Global, pid: u16) -> Result<Change, StepError>
+    pub(super) fn plan_interrupt(&self, alloc: Global, pid: u16) -> Result<NodeChange, StepError>
         ensures ok { IfOk result (λ change. interrupt_rule (node_state self.now) pid ≡ Ok (planned self.now change.edit, change.outcome)) }
         ensures err { IfErr result (λ error. interrupt_rule (node_state self.now) pid ≡ Err error) }
         ensures refused { (r : StepError) → interrupt_rule (node_state self.now) pid ≡ Err r → result ≡ Err r }

@@ -66,9 +66,6 @@ impl Node {
         ensures fits { IfOk result (λ told. PartsFit self.now told.edit) }
         ensures rises { IfOk result (λ told. All (λ f. f < file + 1) told.edit.freed) }
     {
-        if !self.owes_freed(&effect.edit.draft, file) {
-            return Ok(effect);
-        }
         if !self.processes.has_open(pid, file) {
             return Ok(effect);
         }
@@ -85,6 +82,9 @@ impl Node {
     {
         let mut told = effect;
         for before in 0..self.shape.files() {
+            if !self.owes_freed(&told.edit.draft, before + 1) {
+                continue;
+            }
             told = self.tell_if_open(pid, before + 1, told)?;
         }
         Ok(told)

@@ -1,9 +1,9 @@
 -- How an event changes what a token server knows of a node.
 use Rattle.std.specs.Prelude.{ℕ, ◌-◌, Bool, true, false, ◌==◌, max, if◌then◌else◌, List, Option, Some, None}
 use Rattle.std.specs.Option.{option_map}
-use Rattle.token_server.specs.declared.known_nodes.node_change.NodeChange.{NodeChange}
-use Rattle.token_server.specs.declared.known_nodes.node_change.NodeChange.TheVariants.{Forgotten, Asked, Answered, Relieved, Reported}
-use Rattle.token_server.specs.declared.known_nodes.node_change.Changed.{Changed}
+use Rattle.token_server.specs.declared.known_nodes.known_change.KnownChange.{KnownChange}
+use Rattle.token_server.specs.declared.known_nodes.known_change.KnownChange.TheVariants.{Forgotten, Asked, Answered, Relieved, Reported}
+use Rattle.token_server.specs.declared.known_nodes.known_change.Changed.{Changed}
 use Rattle.token_server.specs.rule.Rows.{Row, empty_row, row_above}
 use Rattle.intervals.specs.rule.Bytes.{Range}
 use Rattle.intervals.specs.declared.tree_map.TreeMap.{TreeMap}
@@ -40,7 +40,7 @@ row_or_empty number incarnation None = Some (empty_row number incarnation)
 row_or_empty number incarnation (Some row) = Some row
 
 -- the row of a node after the change
-abbrev pub row_after : NodeChange → Option Row → Option Row
+abbrev pub row_after : KnownChange → Option Row → Option Row
 row_after (Forgotten incarnation) row = row_above incarnation row
 row_after (Asked host begin) row = row_or_empty begin host.incarnation (row_above (host.incarnation - 1) row)
 row_after Answered row = option_map answered row
@@ -48,7 +48,7 @@ row_after (Relieved span mode) row = option_map (relieved span mode) row
 row_after (Reported runs) row = option_map (reporting runs) row
 
 -- the greatest dead incarnation of a node after the change
-abbrev pub dead_after : NodeChange → ℕ → ℕ
+abbrev pub dead_after : KnownChange → ℕ → ℕ
 dead_after (Forgotten incarnation) dead = max dead incarnation
 dead_after (Asked host begin) dead = max dead (host.incarnation - 1)
 dead_after Answered dead = dead
@@ -56,7 +56,7 @@ dead_after (Relieved span mode) dead = dead
 dead_after (Reported runs) dead = dead
 
 -- the incarnation up to which the change drops the node's requests, if it drops any
-abbrev pub dropped_to : NodeChange → Option ℕ
+abbrev pub dropped_to : KnownChange → Option ℕ
 dropped_to (Forgotten incarnation) = Some incarnation
 dropped_to (Asked host begin) = Some (host.incarnation - 1)
 dropped_to Answered = None
@@ -72,6 +72,6 @@ deaths_after None deaths = deaths
 deaths_after (Some c) deaths = λ n. if n == c.node then dead_after c.change (deaths n) else deaths n
 
 -- the change may make the node's row block a request that it did not block before
-abbrev pub may_bar : NodeChange → Bool
+abbrev pub may_bar : KnownChange → Bool
 may_bar (Reported runs) = true
 may_bar _ = false

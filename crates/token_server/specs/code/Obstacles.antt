@@ -3,9 +3,9 @@ use Rattle.std.specs.Prelude.{ℕ, ◌-◌, Bool, true, false, not, ◌&&◌, �
 use Rattle.intervals.specs.rule.Bytes.{Range}
 use Rattle.token_server.specs.declared.token_queue.active_request.ActiveRequest.{ActiveRequest}
 use Rattle.token_server.specs.declared.token_queue.token_request.TokenRequest.{TokenRequest}
-use Rattle.token_server.specs.declared.known_nodes.node_change.NodeChange.{NodeChange}
-use Rattle.token_server.specs.declared.known_nodes.node_change.NodeChange.TheVariants.{Forgotten, Asked, Answered, Relieved, Reported}
-use Rattle.token_server.specs.declared.known_nodes.node_change.Changed.{Changed}
+use Rattle.token_server.specs.declared.known_nodes.known_change.KnownChange.{KnownChange}
+use Rattle.token_server.specs.declared.known_nodes.known_change.KnownChange.TheVariants.{Forgotten, Asked, Answered, Relieved, Reported}
+use Rattle.token_server.specs.declared.known_nodes.known_change.Changed.{Changed}
 use Rattle.token_server.specs.rule.Rows.{Row}
 use Rattle.token_server.specs.rule.State.{ServerState}
 use Rattle.token_server.specs.rule.Requests.{meets}
@@ -27,7 +27,7 @@ is_dropped incarnation None = false
 is_dropped incarnation (Some row) = nat_le row.incarnation incarnation
 
 -- the change of a node's row may free bytes of the span, or block others
-abbrev pub frees : NodeChange → Option Row → Range → Bool
+abbrev pub frees : KnownChange → Option Row → Range → Bool
 frees (Forgotten incarnation) row s = is_dropped incarnation row
 frees (Asked host begin) row s = is_dropped (host.incarnation - 1) row
 frees Answered row s = false

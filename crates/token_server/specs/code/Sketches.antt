@@ -8,7 +8,7 @@ use Rattle.token_server.specs.declared.token_queue.token_request.TokenRequest.{T
 use Rattle.token_server.specs.rule.Actives.{requests_of}
 use Rattle.token_server.specs.declared.sketch.Moved.{Moved}
 use Rattle.token_server.specs.declared.sketch.Moved.TheVariants.{Nothing, New, Again, Waiting, PutOff}
-use Rattle.token_server.specs.declared.known_nodes.node_change.Changed.{Changed}
+use Rattle.token_server.specs.declared.known_nodes.known_change.Changed.{Changed}
 use Rattle.token_server.specs.declared.sketch.Sketch.{Sketch}
 use Rattle.token_server.specs.rule.Requests.{is_of_call, is_up_to}
 use Rattle.token_server.specs.rule.Rows.{Commands, Row}

@@ -12,7 +12,7 @@ ghost use Rattle.token_server.specs.code.Rebuilds.{rebuilt_row, rebuilt_dead};
 ghost use Rattle.token_server.specs.code.RowEdits.{seen_row, row_with, row_kept, row_promised};
 
 use crate::known_nodes::commands::Commands;
-use crate::known_nodes::node_change::NodeChange;
+use crate::known_nodes::known_change::KnownChange;
 use crate::known_nodes::reports::token_told;
 use crate::known_nodes::row_edit::RowAfter;
 use crate::known_nodes::server_command::ServerCommand;
@@ -70,7 +70,7 @@ impl KnownNode {
     }
 
     /// Whether a quick look says that the change leaves the node as it is. `false` says nothing.
-    pub fn stays(&self, change: &NodeChange) -> bool
+    pub fn stays(&self, change: &KnownChange) -> bool
         ensures row { result ≡ true → row_after change.now (row_seen self.now.row) ≡ row_seen self.now.row }
         ensures dead { result ≡ true → dead_after change.now self.now.dead ≡ self.now.dead }
     {
@@ -86,18 +86,18 @@ impl KnownNode {
     pub fn row_after(
         &self,
         alloc: Global,
-        change: &NodeChange,
+        change: &KnownChange,
     ) -> Result<Option<RowAfter>, AllocError>
         ensures { IfOk result (λ row. row_kept row self.now.row ≡ row_after change.now (row_seen self.now.row)) }
     {
         match change {
-            NodeChange::Forgotten { incarnation } => Ok(self.row_above(*incarnation)),
-            NodeChange::Asked { host, begin } => {
+            KnownChange::Forgotten { incarnation } => Ok(self.row_above(*incarnation)),
+            KnownChange::Asked { host, begin } => {
                 Ok(Some(self.asking_row(alloc, host.incarnation, *begin)))
             }
-            NodeChange::Answered => Ok(self.answered_row(None)),
-            NodeChange::Relieved { span, mode } => self.relieved_row(*span, *mode),
-            NodeChange::Reported { runs } => {
+            KnownChange::Answered => Ok(self.answered_row(None)),
+            KnownChange::Relieved { span, mode } => self.relieved_row(*span, *mode),
+            KnownChange::Reported { runs } => {
                 Ok(self.answered_row(Some(token_told(alloc, runs)?)))
             }
         }

@@ -15,9 +15,9 @@ ghost use Rattle.token_server.specs.code.RowEdits.{seen, row_promised, given_to_
 ghost use Rattle.token_server.specs.code.Marks.{NoneExclusive};
 
 use crate::known_nodes::commands::Commands;
+use crate::known_nodes::known_change::Changed;
 use crate::known_nodes::known_node::KnownNode;
 use crate::known_nodes::new_row::NewRow;
-use crate::known_nodes::node_change::Changed;
 use crate::known_nodes::row_edit::RowEdit;
 use crate::known_nodes::server_command::ServerCommand;
 use crate::known_nodes::token_holder::{RowView, TokenHolder};

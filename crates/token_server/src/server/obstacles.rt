@@ -16,7 +16,7 @@ ghost use Rattle.token_server.specs.code.Edits.{reached};
 
 use super::Server;
 use super::admitting::needs_all_of;
-use crate::known_nodes::node_change::{Changed, NodeChange};
+use crate::known_nodes::known_change::{Changed, KnownChange};
 use crate::known_nodes::row_edit::RowEdit;
 use crate::token_queue::active_request::ActiveRequest;
 use crate::token_queue::token_request::TokenRequest;
@@ -89,10 +89,10 @@ impl Server {
         ensures { result ≡ true → (s : Range) → frees changed.now.change (rows_of self.now.known_nodes changed.now.node) s ≡ false }
     {
         match &changed.change {
-            NodeChange::Forgotten { incarnation } => !self.is_dropped(changed.node, *incarnation),
-            NodeChange::Asked { host, .. } => !self.is_dropped(changed.node, host.incarnation - 1),
-            NodeChange::Answered => true,
-            NodeChange::Relieved { .. } | NodeChange::Reported { .. } => false,
+            KnownChange::Forgotten { incarnation } => !self.is_dropped(changed.node, *incarnation),
+            KnownChange::Asked { host, .. } => !self.is_dropped(changed.node, host.incarnation - 1),
+            KnownChange::Answered => true,
+            KnownChange::Relieved { .. } | KnownChange::Reported { .. } => false,
         }
     }
 
@@ -189,14 +189,14 @@ impl Server {
 }
 
 // Whether the change may free bytes that the request needs. It is not asked here which row blocks the request.
-fn may_free(change: &NodeChange, request: &TokenRequest) -> bool
+fn may_free(change: &KnownChange, request: &TokenRequest) -> bool
     ensures { result ≡ false → (row : Option Row) → frees change.now row request.now.wanted.required ≡ false }
 {
     match change {
-        NodeChange::Forgotten { .. } | NodeChange::Asked { .. } | NodeChange::Reported { .. } =>
+        KnownChange::Forgotten { .. } | KnownChange::Asked { .. } | KnownChange::Reported { .. } =>
             true,
-        NodeChange::Answered => false,
-        NodeChange::Relieved { span, .. } => request.meets(*span),
+        KnownChange::Answered => false,
+        KnownChange::Relieved { span, .. } => request.meets(*span),
     }
 }
 
@@ -210,10 +210,10 @@ fn may_be_freed(changed: &Changed, held: &ActiveRequest) -> bool
 }
 
 // Whether the request needs all bytes that the node gave up: then no other active request needs any of them.
-fn takes_all(change: &NodeChange, request: &TokenRequest) -> bool
+fn takes_all(change: &KnownChange, request: &TokenRequest) -> bool
     ensures { result ≡ true → (row : Option Row) → (s : Range) → meets request.now.wanted.required s ≡ false → frees change.now row s ≡ false }
 {
-    let NodeChange::Relieved { span, .. } = change else {
+    let KnownChange::Relieved { span, .. } = change else {
         return false;
     };
     needs_all_of(request, *span)

@@ -1,30 +1,28 @@
 //! How a token server serves its active requests: which commands it sends.
-ghost use Rattle.std.specs.Prelude.{◌≡◌, ◌==◌, ◌≢◌, ℕ, ◌+◌, ◌<◌, ◌≤◌, ◌++◌, true, false, length, IfSome, All, IfOk, IfErr, OnOk, OnSome, MatchOption, slice_index_or, Some, None, Ok, Err};
+ghost use Rattle.std.specs.Prelude.{◌≡◌, ◌==◌, ◌≢◌, ℕ, ◌+◌, ◌<◌, ◌≤◌, ◌++◌, true, false, length, IfSome, All, IfOk, IfErr, OnOk, OnSome, slice_index_or, Some, None, Ok, Err};
 ghost use Rattle.std.specs.Option.{option_map, option_to_list};
 ghost use Rattle.model.specs.rule.Limits.{IsNumber};
 ghost use Rattle.intervals.specs.rule.Bytes.{largest_around};
 ghost use Rattle.messages.specs.rule.Epochs.{before_epoch};
-ghost use Rattle.token_server.specs.rule.Actives.{requests_of};
 ghost use Rattle.token_server.specs.rule.Rows.{row_conflicts, row_conflicts_at};
 ghost use Rattle.token_server.specs.rule.Serve.{narrowed, granted_span, conflicting_node, served, each_served, serve};
-ghost use Rattle.token_server.specs.code.Sent.{bars};
-ghost use Rattle.token_server.specs.code.Told.{row_told, with_told, commands_told, cut, cut_all};
+ghost use Rattle.token_server.specs.code.Told.{row_told, with_told, commands_told};
 ghost use Rattle.token_server.specs.code.Obstacles.{obstacle, are_apart, is_idle};
 ghost use Rattle.token_server.specs.rule.RowParts.{known_node_at};
 ghost use Rattle.token_server.specs.rule.Parts.{server_state};
 ghost use Rattle.token_server.specs.code.Ready.{AreOfEpoch};
-ghost use Rattle.token_server.specs.code.Sketches.{commands_of, without, still_active, sketched};
-ghost use Rattle.token_server.specs.code.RowEdits.{rows_overlaid, seen, given_to_known_node, given_of};
+ghost use Rattle.token_server.specs.code.Sketches.{commands_of, sketched};
+ghost use Rattle.token_server.specs.code.RowEdits.{rows_overlaid, given_to_known_node, given_of};
 ghost use Rattle.token_server.specs.code.Edits.{keeps, held_after, drafted, with_given, IsDrafted, IsServed};
 ghost use Rattle.token_server.specs.code.Turns.{kept_of, IsTurn, AreServed};
 
+use super::cuts::{cut_by, cut_by_all, cut_granted};
 use super::{Server, commands_told};
 use crate::change::ServerDraft;
 use crate::known_nodes::commands::Commands;
 use crate::known_nodes::new_row::NewRow;
 use crate::known_nodes::server_command::{Order, ServerCommand};
-use crate::lists::Lists;
-use crate::sent_command::{SentCommand, cut, told_to};
+use crate::sent_command::{SentCommand, told_to};
 use crate::sketch::Sketch;
 use crate::token_queue::active_request::ActiveRequest;
 use crate::token_queue::token_request::TokenRequest;
@@ -356,72 +354,4 @@ fn none_may_come(ats: &[u8], touched: Option<u8>) -> bool
     ensures untouched { result ≡ true → touched ≡ None }
 {
     ats.is_empty() && touched.is_none()
-}
-
-// The largest span within the desired one, around the required one, without bytes that active requests need which
-// stay active. Once it is down to the required bytes, no request takes a byte away.
-fn cut_by(request: &TokenRequest, held: &[ActiveRequest], lists: &Lists) -> Span
-    ensures value { result ≡ narrowed (still_active lists.now.gone.ended (without lists.now.gone.dropped (requests_of held.now))) request.now }
-    ensures starts_before { result.lo ≤ request.now.wanted.required.lo }
-    ensures ends_after { request.now.wanted.required.hi ≤ result.hi }
-{
-    let required = request.required();
-    let mut span = request.desired();
-    for other in held {
-        if span == required {
-            return span;
-        }
-        span = cut_by_one(required, span, other, lists);
-    }
-    span
-}
-
-// `required`, widened inside `within` until it meets the bytes that the other active request needs, if that one stays
-// active.
-fn cut_by_one(required: Span, within: Span, other: &ActiveRequest, lists: &Lists) -> Span
-    requires starts_within { within.lo ≤ required.lo }
-    requires ends_within { required.hi ≤ within.hi }
-    ensures kept { keeps lists.now.gone.dropped lists.now.gone.ended other.now.request ≡ true → result ≡ cut required within other.now.request.wanted.required }
-    ensures gone { keeps lists.now.gone.dropped lists.now.gone.ended other.now.request ≡ false → result ≡ within }
-    ensures ordered { other.now.request.wanted.required.lo ≤ other.now.request.wanted.required.hi }
-{
-    let _ = &required.lo; // tells the proof that the span has a byte
-    let needed = other.request.required();
-    if !other.request.meets(within) {
-        return within;
-    }
-    if !lists.gone.keeps(&other.request) {
-        return within;
-    }
-    cut(required, within, needed)
-}
-
-// `required`, widened inside `within` until it meets bytes that one of the requests needs. All of them stay active.
-fn cut_by_all(required: Span, within: Span, held: &[ActiveRequest]) -> Span
-    requires starts_within { within.lo ≤ required.lo }
-    requires ends_within { required.hi ≤ within.hi }
-    ensures value { result ≡ cut_all required within (requests_of held.now) }
-    ensures starts_before { result.lo ≤ required.lo }
-    ensures ends_after { required.hi ≤ result.hi }
-    ensures ordered { All (λ r. r.wanted.required.lo ≤ r.wanted.required.hi) (requests_of held.now) }
-{
-    let mut span = within;
-    for other in held {
-        span = cut(required, span, other.request.required());
-    }
-    span
-}
-
-// `required`, widened inside `free` until it meets bytes that the command grants its node in a mode that conflicts
-// with this one.
-fn cut_granted(told: &SentCommand, required: Span, free: Span, mode: Mode) -> Span
-    requires starts_within { free.lo ≤ required.lo }
-    requires ends_within { required.hi ≤ free.hi }
-    ensures { MatchOption (bars told.now.command mode) (result ≡ free) (λ granted. (result ≡ cut required free granted) × (granted.lo ≤ granted.hi)) }
-{
-    let _ = &required.lo; // tells the proof that the span has a byte
-    match told.command.granted(mode) {
-        Some(granted) => cut(required, free, granted),
-        None => free,
-    }
 }

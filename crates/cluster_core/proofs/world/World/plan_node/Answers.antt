@@ -4,7 +4,7 @@ use Rattle.messages.specs.rule.Refusals.{refused_by}
 use Rattle.messages.specs.declared.refusal.Refused.{Refused}
 use Rattle.messages.specs.declared.event.Event.{Event}
 use Rattle.messages.specs.declared.event.Event.TheVariants.{AtNode}
-use Rattle.node_core.specs.declared.change.Change.{Change as NodeChange}
+use Rattle.node_core.specs.declared.change.NodeChange.{NodeChange}
 use Rattle.node_core.specs.declared.event.NodeEvent.TheVariants.{Input}
 use Rattle.cluster_core.specs.code.Changes.{IsNodeChange}
 use Rattle.cluster_core.specs.rule.Next.{taken}

@@ -19,7 +19,7 @@ returns-clause-value c =
     let does = tried_if (after_grant s k c.args.span) (open_call s k.call.number) in
     let waits = c.open_call-waiting.ensures.value ∙ ap (λ (k : TokenCommand). open_call s k.call.number) c.command.view_is in
     let tries = (λ i. tried_if (sym c.in_ok-draft.ensures.state i) (sym waits i)) ∙ c.in_ok-effect.ensures.value in
-    let sends = effect-before p does c.message.result c.in_ok-effect.effect c.after.result tries c.after.ensures in
-    let made = subst (λ (m : Message). IfOk c.after.result (λ e. before m does ≡ effect_of p e)) (c.message.ensures ∙ c.taken.ensures) sends in
+    let sends = effect-before p does c.message.result c.in_ok-effect.effect c.with_first.result tries c.with_first.ensures in
+    let made = subst (λ (m : Message). IfOk c.with_first.result (λ e. before m does ≡ effect_of p e)) (c.message.ensures ∙ c.taken.ensures) sends in
     let same = granted-in s k.file k.number k.call k.mode c.args.span in
-    in_order-next t p k.file k.number (granted t k.file k.number k.call k.mode c.args.span) (granted s k.file k.number k.call k.mode c.args.span) c.after.result (sym c.is_next.ensures ∙ c.if-not-is_next.false) same made
+    in_order-next t p k.file k.number (granted t k.file k.number k.call k.mode c.args.span) (granted s k.file k.number k.call k.mode c.args.span) c.with_first.result (sym c.is_next.ensures ∙ c.if-not-is_next.false) same made

@@ -6,10 +6,10 @@ pub returns-then-not-owes_freed-clause-value : goal.returns-then-not-owes_freed-
 returns-then-not-owes_freed-clause-value c = told-nothing c.args.self.now c.args.effect c.args.file c.requires.rises (sym c.owes_freed.ensures ∙ c.if-not-owes_freed.true)
 
 pub returns-clause-value : goal.returns-clause-value
-returns-clause-value c = told-effect c.args.self.now c.args.effect c.args.file c.before-2.result c.requires.rises (sym c.owes_freed.ensures ∙ c.if-not-owes_freed.false) (rw (← c.freed.ensures) c.before-2.ensures)
+returns-clause-value c = told-effect c.args.self.now c.args.effect c.args.file c.with_freed_last.result c.requires.rises (sym c.owes_freed.ensures ∙ c.if-not-owes_freed.false) (rw (← c.freed.ensures) c.with_freed_last.ensures)
 
 pub returns-clause-fits : goal.returns-clause-fits
-returns-clause-fits c = told-fits c.args.self.now c.args.effect c.args.file _ c.before-2.result c.requires.fits c.requires.file c.before-2.ensures
+returns-clause-fits c = told-fits c.args.self.now c.args.effect c.args.file _ c.with_freed_last.result c.requires.fits c.requires.file c.with_freed_last.ensures
 
 pub returns-clause-rises : goal.returns-clause-rises
-returns-clause-rises c = told-rises c.args.effect c.args.file _ c.before-2.result c.requires.rises c.before-2.ensures
+returns-clause-rises c = told-rises c.args.effect c.args.file _ c.with_freed_last.result c.requires.rises c.with_freed_last.ensures

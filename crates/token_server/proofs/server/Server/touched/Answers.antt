@@ -1,7 +1,7 @@
 use Rattle.std.specs.Prelude.{ℕ, Bool, cond, Option, Some}
 use Rattle.std.proofs.Common.{sym, ap, inl, inr, ◌∙◌}
 use Rattle.std.proofs.lemmas.Bool.Decides.{eqb_tells}
-use Rattle.token_server.specs.declared.known_nodes.node_change.Changed.{Changed}
+use Rattle.token_server.specs.declared.known_nodes.known_change.Changed.{Changed}
 use Rattle.token_server.specs.rule.Rows.{Row}
 use Rattle.token_server.specs.rule.RowParts.{rows_of}
 use Rattle.token_server.specs.code.Changes.{row_after, rows_after}

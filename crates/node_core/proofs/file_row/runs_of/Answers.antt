@@ -3,7 +3,7 @@ use Rattle.std.proofs.Common.{subst}
 use Rattle.token_set.specs.code.Sets.{token_of}
 use Rattle.messages.specs.declared.token_run.TokenRun.{TokenRun}
 use Rattle.node_core.proofs.ReaderLaws.{reported_runs, reported_longest}
-use Rattle.node_core.proofs.report.runs_of.Goals as goal
+use Rattle.node_core.proofs.file_row.runs_of.Goals as goal
 
 pub of-requires : goal.of-requires
 of-requires c = reported_longest (token_of c.args.token.now) c.in_ok-runs.runs.items c.deref.result.now c.in_ok-runs.ensures.listed c.in_ok-runs.ensures.bounded c.deref.ensures.value

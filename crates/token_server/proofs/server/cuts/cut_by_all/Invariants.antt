@@ -1,7 +1,7 @@
 use Rattle.std.proofs.Common.{take}
 use Rattle.token_server.specs.rule.Actives.{requests_of}
 use Rattle.token_server.proofs.CutLaws.{AreCut}
-use Rattle.token_server.proofs.server.serving.cut_by_all.Given as goal
+use Rattle.token_server.proofs.server.cuts.cut_by_all.Given as goal
 
 abbrev pub invariant-loop-other : goal.invariant-loop-other
 invariant-loop-other l = AreCut l.required l.fn.within (requests_of (take l.other-index l.held)) l.span

@@ -2,7 +2,7 @@ use Rattle.std.specs.Prelude.{◌≤◌}
 use Rattle.std.proofs.Common.{sym, ap, ◌∙◌, arith}
 use Rattle.intervals.specs.rule.Bytes.{Range}
 use Rattle.token_server.proofs.CutLaws.{cut-clear}
-use Rattle.token_server.proofs.server.serving.cut_by_one.Goals as goal
+use Rattle.token_server.proofs.server.cuts.cut_by_one.Goals as goal
 
 pub returns-then-not-meets-clause-kept : goal.returns-then-not-meets-clause-kept
 returns-then-not-meets-clause-kept c = λ on.

@@ -9,7 +9,7 @@ use model::mode::Mode;
 
 /// The change that an event makes of what a server knows of one node.
 #[derive(Drop)]
-pub enum NodeChange {
+pub enum KnownChange {
     /// An incarnation is known to be dead, and so are those before it.
     Forgotten { incarnation: u16 },
     /// The node asks in the host's incarnation. Incarnations before it are known to be dead. A new row begins its
@@ -27,18 +27,18 @@ pub enum NodeChange {
 #[derive(Drop)]
 pub struct Changed {
     pub node: u8,
-    pub change: NodeChange,
+    pub change: KnownChange,
 }
 
-impl NodeChange {
+impl KnownChange {
     /// The incarnation up to which the change drops the node's requests, if it drops any.
     pub fn dropped_to(&self) -> Option<u16>
         ensures { result ≡ dropped_to self.now }
     {
         match self {
-            NodeChange::Forgotten { incarnation } => Some(*incarnation),
-            NodeChange::Asked { host, .. } => Some(host.incarnation - 1),
-            NodeChange::Answered | NodeChange::Relieved { .. } | NodeChange::Reported { .. } =>
+            KnownChange::Forgotten { incarnation } => Some(*incarnation),
+            KnownChange::Asked { host, .. } => Some(host.incarnation - 1),
+            KnownChange::Answered | KnownChange::Relieved { .. } | KnownChange::Reported { .. } =>
                 None,
         }
     }
@@ -57,6 +57,6 @@ impl NodeChange {
     pub fn may_bar(&self) -> bool
         ensures { result ≡ may_bar self.now }
     {
-        matches!(self, NodeChange::Reported { .. })
+        matches!(self, KnownChange::Reported { .. })
     }
 }

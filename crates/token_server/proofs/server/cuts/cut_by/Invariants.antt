@@ -2,7 +2,7 @@ use Rattle.std.proofs.Common.{take}
 use Rattle.token_server.specs.rule.Actives.{requests_of}
 use Rattle.token_server.specs.code.Turns.{kept}
 use Rattle.token_server.proofs.CutLaws.{IsLeft}
-use Rattle.token_server.proofs.server.serving.cut_by.Given as goal
+use Rattle.token_server.proofs.server.cuts.cut_by.Given as goal
 
 abbrev pub invariant-loop-other : goal.invariant-loop-other
 invariant-loop-other l = IsLeft (requests_of (kept l.lists (take l.other-index l.held))) l.request l.span

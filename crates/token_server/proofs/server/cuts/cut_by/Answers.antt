@@ -12,7 +12,7 @@ use Rattle.token_server.specs.code.Turns.{kept}
 use Rattle.token_server.proofs.SpanLaws.{one_span}
 use Rattle.token_server.proofs.CutLaws.{IsLeft, left-start, left-bounds, left-least}
 use Rattle.token_server.proofs.TurnLaws.{kept-requests, kept-parts, left-next}
-use Rattle.token_server.proofs.server.serving.cut_by.Goals as goal
+use Rattle.token_server.proofs.server.cuts.cut_by.Goals as goal
 
 pub loop-other-init : goal.loop-other-init
 loop-other-init c =

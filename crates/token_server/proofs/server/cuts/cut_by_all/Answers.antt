@@ -7,7 +7,7 @@ use Rattle.token_server.specs.declared.token_queue.token_request.TokenRequest.{T
 use Rattle.token_server.specs.rule.Actives.{requests_of}
 use Rattle.token_server.specs.code.Told.{cut}
 use Rattle.token_server.proofs.CutLaws.{AreCut, cut-start, cut-more}
-use Rattle.token_server.proofs.server.serving.cut_by_all.Goals as goal
+use Rattle.token_server.proofs.server.cuts.cut_by_all.Goals as goal
 
 pub loop-other-init : goal.loop-other-init
 loop-other-init c = cut-start c.args.required c.args.within c.requires.starts_within c.requires.ends_within
