@@ -1,9 +1,9 @@
 -- What is told of the open calls of a world is what they come to at the end of a schedule.
 use Rattle.std.specs.Prelude.{nat_le, if◌then◌else◌, ◌||◌}
 use Rattle.std.specs.List.{list_any}
-use Rattle.std.proofs.Common.{◌≡◌, ◌∙◌, ◌<◌, ◌≤◌, ◌==◌, ◌&&◌, ℕ, zero, suc, Bool, true, false, not, All, Contains, List, [], ◌∷◌, arith, ap, eqb-true, get_or, inl, inr, leb-true, length, map, refl, subst, sym}
-use Rattle.std.proofs.lemmas.Bool.{and_parts, cases_lt, false≢true}
-use Rattle.std.proofs.lemmas.List.Elements.{All-contains, Contains-append_cases, Contains-append_left, Contains-append_right}
+use Rattle.std.proofs.Common.{◌≡◌, ◌∙◌, ◌<◌, ◌≤◌, ◌==◌, ◌&&◌, ℕ, zero, suc, Bool, true, false, not, All, Contains, List, [], ◌∷◌, arith, ap, eqb-true, inl, inr, leb-true, length, map, refl, subst, sym}
+use Rattle.std.proofs.lemmas.Bool.{and_parts, false≢true}
+use Rattle.std.proofs.lemmas.List.Elements.{All-contains, Contains-append_cases}
 use Rattle.std.proofs.lemmas.List.Folds.{Any-from_list_any, list_any_at}
 use Rattle.model.specs.declared.call.CallId.{CallId}
 use Rattle.model.specs.declared.lock_info.LockInfo.{LockInfo}
@@ -20,48 +20,14 @@ use Rattle.views.specs.declared.pictures.open_in.NamedCall.{NamedCall}
 use Rattle.views.specs.rule.OpenIn.{is_wait, named_on, open_in, open_of, open_on, open_up_to}
 use Rattle.states.specs.declared.open_call.OpenState.{OpenState}
 use Rattle.states.specs.rule.OpenCalls.{IsBlocker, IsOpenState, key_of}
+use Rattle.states.proofs.OpenLaws.{of_one, onto_node, there, up_to}
 use Rattle.player.specs.rule.Rounds.{NoneStuck, works}
 use Rattle.explorer.specs.declared.explored_answer.ExploredAnswer.TheVariants.{Open, Blocked, Undelivered}
 use Rattle.explorer.specs.rule.Left.{IsBlockedCall, IsLeft, IsServedCall, IsUndelivered, TellsLeft}
 use Rattle.explorer.specs.code.LeftCalls.{is_among, is_held, is_left, left_by, left_names}
 
-module _ {A B : Type 0} (f : A → B) where
-  -- what f gives of an element is among what it gives
-  there : (xs : List A) (x : A) → Contains xs x → Contains (map f xs) (f x)
-  there [] x at = absurd (let lt = at.1 in omega arith)
-  there (y ∷ ys) x at = by (there ys x) at.0 at.1 at.2
-    where
-      by : (Contains ys x → Contains (map f ys) (f x)) → (k : ℕ) → k < length (y ∷ ys) → get_or (y ∷ ys) k x ≡ x → Contains (map f (y ∷ ys)) (f x)
-      by rest zero lt is = (0, omega arith, ap f is)
-      by rest (suc k) lt is = let later = rest (k, omega (arith, lt), is) in let below = later.1 in (suc later.0, omega (arith, below), later.2)
-
-  -- and what is among that is given of one
-  of_one : (xs : List A) (y : B) → Contains (map f xs) y → (x : A) × Contains xs x × (f x ≡ y)
-  of_one [] y at = absurd (let lt = at.1 in omega arith)
-  of_one (x ∷ xs) y at = by (of_one xs y) at.0 at.1 at.2
-    where
-      by : (Contains (map f xs) y → (z : A) × Contains xs z × (f z ≡ y)) → (k : ℕ) → k < length (map f (x ∷ xs)) → get_or (map f (x ∷ xs)) k y ≡ y → (z : A) × Contains (x ∷ xs) z × (f z ≡ y)
-      by rest zero lt is = (x, (0, omega arith, refl), is)
-      by rest (suc k) lt is =
-          let later = rest (k, omega (arith, lt), is) in
-          let at = later.1 in
-          let below = at.1 in
-          (later.0, (suc at.0, omega (arith, below), at.2), later.2)
-
 module _ (w : WorldState) where
-  -- the open calls of a live node are among those of the nodes up to it
-  onto_node : (n : ℕ) (c : OpenCall) → is_alive w n ≡ true → Contains (w.nodes n).pending c → Contains (open_on w n) (named_on (w.nodes n) c)
-  onto_node n c alive at = subst (λ (b : Bool). Contains (if b then open_of (w.nodes n) else []) (named_on (w.nodes n) c)) (sym alive) (there (named_on (w.nodes n)) (w.nodes n).pending c at)
-
-  up_to : (count n : ℕ) (x : NamedCall) → 1 ≤ n → n ≤ count → Contains (open_on w n) x → Contains (open_up_to w count) x
-  unfolding open_up_to
-  up_to zero n x least most at = absurd (omega (arith, least, most))
-  up_to (suc count) n x least most at = elim (cases_lt n (suc count)) [
-    | inl lt ↦ Contains-append_left (open_up_to w count) (open_on w (suc count)) x (up_to count n x least (omega (arith, lt)) at)
-    | inr ge ↦ let last : n ≡ suc count = omega (arith, ge, most) in Contains-append_right (open_up_to w count) (open_on w (suc count)) x (subst (λ (k : ℕ). Contains (open_on w k) x) last at)
-  ]
-
-  -- and each of those is of a live node
+  -- each of the open calls of a node is of a live node
   on_node : (n : ℕ) (x : NamedCall) → Contains (open_on w n) x → (is_alive w n ≡ true) × Contains (open_of (w.nodes n)) x
   on_node n x at = by (is_alive w n) refl at
     where

@@ -36,9 +36,9 @@ use std::alloc::{AllocError, Global};
 /// seeds came to it, and which is the first.
 ///
 /// Those that break what is expected come before the others, and of each kind the more frequent ones first. Of
-/// each the lines are told in which outcomes differ, and those that break what is expected: a comment line
-/// `# expect WORDS` right behind a call line, where the answer's text has to begin with the words. Behind them the
-/// lines are told whose calls are open in each outcome, if there are any. All is told as JSON, if that is asked for. Of
+/// each the lines are told in which outcomes differ, those whose calls are open, and those that break what is expected: a
+/// comment line `# expect WORDS` right behind a call line, where the answer's text has to begin with the words. Behind them
+/// the lines are told whose calls are open in each outcome, if there are any. All is told as JSON, if that is asked for. Of
 /// each seed that is done the watcher is told.
 ///
 /// # Errors

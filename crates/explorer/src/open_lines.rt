@@ -51,7 +51,7 @@ fn is_ended_in(outcome: &ExploredOutcome, index: usize) -> bool
 }
 
 // Whether the answer is that a call is open.
-fn is_open(answer: Option<&ExploredAnswer>) -> bool
+pub(crate) fn is_open(answer: Option<&ExploredAnswer>) -> bool
     ensures { result ≡ is_open (option_map (λ a. a.now) answer.entry) }
 {
     matches!(

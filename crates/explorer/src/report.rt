@@ -2,6 +2,7 @@
 use crate::expectations::{expected, is_broken};
 use crate::explored_answer::{ExploredAnswer, push_answer};
 use crate::explored_outcome::ExploredOutcome;
+use crate::open_lines::is_open;
 use crate::script_reader::ScriptReader;
 use lockscript::operations::Operation;
 use lockscript::script_line::{ScriptCommand, ScriptLine};
@@ -27,16 +28,40 @@ pub(crate) fn report(
         push_heading(&mut out, index + 1, outcome.seeds(), seeds)?;
         push_lines(&mut out, alloc, text, lines, outcomes, outcome.answers())?;
     }
-    push_open(&mut out, open)?;
+    push_end(
+        &mut out,
+        text,
+        lines,
+        outcomes,
+        open,
+        ("seeds", seeds as usize),
+    )?;
+    Ok(out)
+}
+
+/// Writes which calls are open in each of the outcomes, and how many outcomes of so many seeds or states there are; answers
+/// how many of them break what the text expects.
+///
+/// # Errors
+/// `AllocError` where a request for memory was refused.
+pub(crate) fn push_end(
+    out: &mut String,
+    text: &str,
+    lines: &[ScriptLine],
+    outcomes: &[ExploredOutcome],
+    open: &[u32],
+    (of, many): (&str, usize),
+) -> Result<usize, AllocError> {
+    push_open(out, open)?;
     let count = outcomes.len();
     let expected = count_expected(text, lines);
     let breaking = outcomes.iter().filter(|outcome| outcome.breaks()).count();
     let unanswered = open.len();
     writeln!(
         out,
-        "outcomes {count}, seeds {seeds}, expected {expected}, breaking {breaking}, open in each {unanswered}"
+        "outcomes {count}, {of} {many}, expected {expected}, breaking {breaking}, open in each {unanswered}"
     )?;
-    Ok(out)
+    Ok(breaking)
 }
 
 // Writes the line above an outcome, to which these of so many seeds came.
@@ -54,8 +79,8 @@ fn push_heading(
     )
 }
 
-/// Writes the lines that are told of an outcome: those in which others of these differ from it, and those whose answers
-/// begin otherwise than the text expects.
+/// Writes the lines that are told of an outcome: those in which others of these differ from it, those whose calls are open,
+/// and those whose answers begin otherwise than the text expects.
 ///
 /// # Errors
 /// `AllocError` where a request for memory was refused.
@@ -71,7 +96,7 @@ pub(crate) fn push_lines(
     for (index, (line, answer)) in lines.iter().zip(answers.iter()).enumerate() {
         let words = expected(&mut reader, line);
         let broken = is_broken(alloc, words, answer)?;
-        if broken || differs(outcomes, index, answer) {
+        if broken || is_told(outcomes, index, answer) {
             push_answered(out, line, answer)?;
             match words {
                 Some(words) if broken => writeln!(out, ", expected {words}")?,
@@ -82,8 +107,14 @@ pub(crate) fn push_lines(
     Ok(())
 }
 
-/// Whether an outcome has another answer at the index.
-pub(crate) fn differs(outcomes: &[ExploredOutcome], index: usize, answer: &ExploredAnswer) -> bool {
+/// Whether the answer at the index is told of an outcome, whatever is expected: its call is open, or one of these outcomes has
+/// another answer there. Of a run, which is no outcome, it is not.
+pub(crate) fn is_told(outcomes: &[ExploredOutcome], index: usize, answer: &ExploredAnswer) -> bool {
+    !outcomes.is_empty() && (is_open(Some(answer)) || differs(outcomes, index, answer))
+}
+
+// Whether an outcome has another answer at the index.
+fn differs(outcomes: &[ExploredOutcome], index: usize, answer: &ExploredAnswer) -> bool {
     outcomes.iter().any(|outcome| {
         let its = outcome.answers().get(index);
         its.is_some_and(|its| *its != *answer)
@@ -110,7 +141,7 @@ fn push_answered(
 ///
 /// # Errors
 /// `AllocError` where a request for memory was refused.
-pub(crate) fn push_open(out: &mut String, numbers: &[u32]) -> Result<(), AllocError> {
+fn push_open(out: &mut String, numbers: &[u32]) -> Result<(), AllocError> {
     let Some((first, rest)) = numbers.split_first() else {
         return Ok(());
     };

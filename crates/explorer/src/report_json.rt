@@ -5,7 +5,7 @@
 use crate::expectations::{expected, is_broken};
 use crate::explored_answer::{ExploredAnswer, push_answer};
 use crate::explored_outcome::ExploredOutcome;
-use crate::report::{count_expected, differs};
+use crate::report::{count_expected, is_told};
 use crate::script_reader::ScriptReader;
 use lockscript::operations::Operation;
 use lockscript::script_line::{ScriptCommand, ScriptLine};
@@ -53,8 +53,8 @@ fn outcome_value(
     json!(in alloc; {"seeds": count, "first": first, "calls": calls})
 }
 
-// The calls in which others of these outcomes differ from it, and those whose answers begin otherwise than the text
-// expects.
+// The calls in which others of these outcomes differ from it, those that are open, and those whose answers begin otherwise
+// than the text expects.
 fn told_values(
     alloc: Global,
     text: &str,
@@ -67,7 +67,7 @@ fn told_values(
     for (index, (line, answer)) in lines.iter().zip(answers.iter()).enumerate() {
         let words = expected(&mut reader, line);
         let broken = is_broken(alloc, words, answer)?;
-        if broken || differs(outcomes, index, answer) {
+        if broken || is_told(outcomes, index, answer) {
             let words = if broken { words } else { None };
             values.push(answered_value(alloc, line, answer, words)?)?;
         }

@@ -12,7 +12,7 @@ use Rattle.states.specs.rule.OpenCalls.{EachOpenIsTold, key_of}
 
 module _ {A B : Type 0} (f : A → B) where
   -- what f gives of an element is among what it gives
-  there : (xs : List A) (x : A) → Contains xs x → Contains (map f xs) (f x)
+  pub there : (xs : List A) (x : A) → Contains xs x → Contains (map f xs) (f x)
   there [] x at = absurd (let lt = at.1 in omega arith)
   there (y ∷ ys) x at = by (there ys x) at.0 at.1 at.2
     where
@@ -21,7 +21,7 @@ module _ {A B : Type 0} (f : A → B) where
       by rest (suc k) lt is = let later = rest (k, omega (arith, lt), is) in let below = later.1 in (suc later.0, omega (arith, below), later.2)
 
   -- and what is among that is given of one
-  of_one : (xs : List A) (y : B) → Contains (map f xs) y → (x : A) × Contains xs x × (f x ≡ y)
+  pub of_one : (xs : List A) (y : B) → Contains (map f xs) y → (x : A) × Contains xs x × (f x ≡ y)
   of_one [] y at = absurd (let lt = at.1 in omega arith)
   of_one (x ∷ xs) y at = by (of_one xs y) at.0 at.1 at.2
     where
@@ -34,10 +34,10 @@ module _ {A B : Type 0} (f : A → B) where
           (later.0, (suc at.0, omega (arith, below), at.2), later.2)
 
 -- the open calls of a live node are among those of the nodes up to it
-on_node : (w : WorldState) (n : ℕ) (c : OpenCall) → is_alive w n ≡ true → Contains (w.nodes n).pending c → Contains (open_on w n) (named_on (w.nodes n) c)
-on_node w n c alive at = subst (λ (b : Bool). Contains (if b then open_of (w.nodes n) else []) (named_on (w.nodes n) c)) (sym alive) (there (named_on (w.nodes n)) (w.nodes n).pending c at)
+pub onto_node : (w : WorldState) (n : ℕ) (c : OpenCall) → is_alive w n ≡ true → Contains (w.nodes n).pending c → Contains (open_on w n) (named_on (w.nodes n) c)
+onto_node w n c alive at = subst (λ (b : Bool). Contains (if b then open_of (w.nodes n) else []) (named_on (w.nodes n) c)) (sym alive) (there (named_on (w.nodes n)) (w.nodes n).pending c at)
 
-up_to : (w : WorldState) (count n : ℕ) (x : NamedCall) → 1 ≤ n → n ≤ count → Contains (open_on w n) x → Contains (open_up_to w count) x
+pub up_to : (w : WorldState) (count n : ℕ) (x : NamedCall) → 1 ≤ n → n ≤ count → Contains (open_on w n) x → Contains (open_up_to w count) x
 unfolding open_up_to
 up_to w zero n x least most at = absurd (omega (arith, least, most))
 up_to w (suc count) n x least most at = elim (cases_lt n (suc count)) [
@@ -52,6 +52,6 @@ open_told w told n c is same alive at =
     let least : 1 ≤ n = leb-true 1 n bounds.0 in
     let within : n ≤ w.shape.nodes = leb-true n w.shape.nodes bounds.1 in
     let few = is.nodes_in.1 in
-    let all = up_to w most_nodes n (named_on (w.nodes n) c) least (omega (arith, within, few)) (on_node w n c alive at) in
+    let all = up_to w most_nodes n (named_on (w.nodes n) c) least (omega (arith, within, few)) (onto_node w n c alive at) in
     let one = of_one key_of told (named_on (w.nodes n) c) (subst (λ (xs : List NamedCall). Contains xs (named_on (w.nodes n) c)) (sym same) all) in
     (one.0, one.1, ap (λ (x : NamedCall). x.asked) one.2)

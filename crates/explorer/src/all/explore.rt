@@ -27,9 +27,9 @@ use std::alloc::Global;
 /// Situations that are met again are gone through once. Where there are more than the limit says, or a schedule needs
 /// more entries than a journal may have, the outcomes are some of them.
 ///
-/// The text tells of each outcome the lines in which outcomes differ, and those that break what is expected, as `explore`
-/// does, and how many situations there are; where an outcome breaks what is expected, also a schedule that does so in
-/// as few choices as any, as a script. Of each situation that is done the watcher is told.
+/// The text tells of each outcome the lines that `explore` tells, and how many situations there are; where an outcome
+/// breaks what is expected, also a schedule that does so in as few choices as any, as a script. Of each situation that
+/// is done the watcher is told.
 ///
 /// # Errors
 /// `NoMemory` where a request for memory was refused.

@@ -1,6 +1,6 @@
 //! The text of what every schedule comes to.
 use crate::explored_outcome::ExploredOutcome;
-use crate::report::{count_expected, push_lines, push_open};
+use crate::report::{push_end, push_lines};
 use crate::text::script_text;
 use lockscript::script::Script;
 use lockscript::script_line::ScriptCommand;
@@ -28,21 +28,13 @@ pub(crate) fn report(
         writeln!(out, "outcome {number}")?;
         push_lines(&mut out, alloc, text, lines, outcomes, outcome.answers())?;
     }
-    push_open(&mut out, open)?;
-    let count = outcomes.len();
-    let expected = count_expected(text, lines);
-    let breaking = outcomes.iter().filter(|outcome| outcome.breaks()).count();
-    let unanswered = open.len();
-    writeln!(
-        out,
-        "outcomes {count}, states {states}, expected {expected}, breaking {breaking}, open in each {unanswered}"
-    )?;
-    push_end(&mut out, states, whole, breaking)?;
+    let breaking = push_end(&mut out, text, lines, outcomes, open, ("states", states))?;
+    push_known(&mut out, states, whole, breaking)?;
     Ok(out)
 }
 
 // Writes what is known by that: that no schedule breaks what is expected, or that there are more of them.
-fn push_end(
+fn push_known(
     out: &mut String,
     states: usize,
     whole: bool,
