@@ -5,9 +5,9 @@ ghost use Rattle.lockscript.specs.rule.Served.{IsServedOp};
 ghost use Rattle.recordings.specs.rule.Known.{file_of, free_place, running_of};
 ghost use Rattle.recordings.specs.rule.Steps.{arrived, asked_by, asks, begun, bound, closed, closed_in_turn, closes, closes_range, copied, duplicates, ended, executes, finished, followed, follows, forked, forked_by, forks, freed, given_up, gone, happened, held_of, left_out, locking, op_of, opens, opens_file, refers, retried, returned, settled, shut, start, step, turn_after, why_not, with_answer, with_call, with_held, with_left, with_line, with_locked, with_note, with_running, with_shared, with_thread, with_waiting};
 
+use crate::held_descriptors::HeldDescriptors;
 use crate::lists::{
-    fds_within, file_of, free_place, free_slot, has_room, has_scripted, has_thread, held_by,
-    inherit, is_left, placing_of, process_of, push_retries, remove_all_held, remove_held,
+    file_of, free_place, has_room, has_thread, is_left, placing_of, process_of, push_retries,
     remove_left, remove_process, remove_thread, remove_threads_of, remove_waiting, running_of,
 };
 use crate::note::Note;
@@ -43,7 +43,7 @@ pub(crate) struct KnownProcesses<'a> {
     files: Vec<NumberedFile>,
     running: Vec<Running>,
     threads: Vec<Thread>,
-    held: Vec<RecordedDescriptor>,
+    held: HeldDescriptors,
     // The PIDs of those that stay out of the script.
     left: Vec<u32>,
     // Whose waits are open.
@@ -59,7 +59,7 @@ impl<'a> Model for KnownProcesses<'a> {
 
     ghost Value = { KnownFields };
 
-    ghost view = { λ k. record { nodes = k.nodes; next = k.next; placings = k.placings.now; every = k.every; files = k.files.items; running = k.running.items; threads = k.threads.items; held = k.held.items; left = k.left.items; waiting = k.waiting.items; locked = k.locked.items; lines = k.lines.items; notes = k.notes.items } };
+    ghost view = { λ k. record { nodes = k.nodes; next = k.next; placings = k.placings.now; every = k.every; files = k.files.items; running = k.running.items; threads = k.threads.items; held = k.held; left = k.left.items; waiting = k.waiting.items; locked = k.locked.items; lines = k.lines.items; notes = k.notes.items } };
 
     ghost invariant = { λ k. IsNumber most_nodes k.nodes × IsNumber most_nodes k.next };
 }
@@ -85,7 +85,7 @@ impl<'a> KnownProcesses<'a> {
             files,
             running: Vec::new(alloc),
             threads: Vec::new(alloc),
-            held: Vec::new(alloc),
+            held: HeldDescriptors::new(alloc),
             left: Vec::new(alloc),
             waiting: Vec::new(alloc),
             locked: Vec::new(alloc),
@@ -156,7 +156,7 @@ impl<'a> KnownProcesses<'a> {
         ensures { result ≡ held_of self.now (running_of self.now.running pid) fd }
     {
         match self.running(pid) {
-            Some(one) => held_by(&self.held, one.place, fd),
+            Some(one) => self.held.find(one.place, fd),
             None => None,
         }
     }
@@ -216,8 +216,7 @@ impl<'a> KnownProcesses<'a> {
             fd,
             path,
             slot,
-        })?;
-        Ok(())
+        })
     }
 
     // The process of that PID stays out of the script from now on.
@@ -335,7 +334,7 @@ impl<'a> KnownProcesses<'a> {
         };
         self.close_at(one.place, fd)?;
         let file = file_of(&self.files, path);
-        let slot = free_slot(&self.held, one.place);
+        let slot = self.held.free_slot(one.place);
         self.bind(one.place, fd, path, access, file, slot)
     }
 
@@ -372,12 +371,12 @@ impl<'a> KnownProcesses<'a> {
         if fd == to {
             return Ok(());
         }
-        let from = held_by(&self.held, one.place, fd);
+        let from = self.held.find(one.place, fd);
         self.close_at(one.place, to)?;
         let Some(from) = from else {
             return Ok(());
         };
-        let slot = free_slot(&self.held, one.place);
+        let slot = self.held.free_slot(one.place);
         self.copy(one.place, to, from.path, from.slot, slot)
     }
 
@@ -417,10 +416,9 @@ impl<'a> KnownProcesses<'a> {
     fn close_at(&mut self, place: ScriptProcess, fd: u32) -> Result<(), AllocError>
         ensures { OnOk result (self.new ≡ closed place fd self.old) }
     {
-        let before = held_by(&self.held, place, fd);
+        let before = self.held.find(place, fd);
         self.shut(before)?;
-        remove_held(&mut self.held, place, fd);
-        Ok(())
+        self.held.remove(place, fd)
     }
 
     // The descriptor of the script is closed, if there is one.
@@ -444,8 +442,7 @@ impl<'a> KnownProcesses<'a> {
         let Some(one) = by else {
             return Ok(());
         };
-        let alloc = *self.held.allocator();
-        let fds = fds_within(alloc, &self.held, one.place, first, last)?;
+        let fds = self.held.fds_within(one.place, first, last)?;
         self.close_in_turn(one.place, &fds)
     }
 
@@ -467,7 +464,7 @@ impl<'a> KnownProcesses<'a> {
         let Some(one) = by else {
             return Ok(());
         };
-        if has_scripted(&self.held, one.place) {
+        if self.held.has_scripted(one.place) {
             return self.push_note(line, OmissionReason::Executes);
         }
         Ok(())
@@ -525,7 +522,7 @@ impl<'a> KnownProcesses<'a> {
         self.push_line(WrittenLine::Begins { place, pid })?;
         self.push_call(parent, Op::Process(ProcessCall::Fork { child }))?;
         self.push_running(pid, place)?;
-        inherit(&mut self.held, parent, place)?;
+        self.held.inherit(parent, place)?;
         self.note_shared(line, shares)
     }
 
@@ -580,8 +577,8 @@ impl<'a> KnownProcesses<'a> {
         ensures { OnOk result (self.new ≡ ended place self.old) }
     {
         self.push_call(place, Op::Exit)?;
+        self.held.remove_all(place)?;
         remove_process(&mut self.running, place);
-        remove_all_held(&mut self.held, place);
         remove_waiting(&mut self.waiting, place);
         Ok(())
     }

@@ -183,13 +183,6 @@ pub(crate) fn remove_held(held: &mut Vec<RecordedDescriptor>, place: ScriptProce
     held.retain(|one| !is_held(one, place, fd));
 }
 
-/// All descriptors of the process go.
-pub(crate) fn remove_all_held(held: &mut Vec<RecordedDescriptor>, place: ScriptProcess)
-    ensures { held.new.items ≡ filter (λ h. not (is_of place h)) held.old.items }
-{
-    held.retain(|one| !one.place.is_at(place));
-}
-
 /// The process goes.
 pub(crate) fn remove_process(running: &mut Vec<Running>, place: ScriptProcess)
     ensures { running.new.items ≡ filter (λ r. not (runs_at place r)) running.old.items }
@@ -300,25 +293,8 @@ pub(crate) fn remove_left(left: &mut Vec<u32>, pid: u32)
     left.retain(|other| *other != pid);
 }
 
-/// The child gets the descriptors that its parent has.
-pub(crate) fn inherit(
-    held: &mut Vec<RecordedDescriptor>,
-    parent: ScriptProcess,
-    child: ScriptProcess,
-) -> Result<(), AllocError>
-    ensures { OnOk result (held.new.items ≡ held.old.items ++ map (in_child child) (filter (is_of parent) held.old.items)) }
-{
-    let mut inherited = Vec::new(*held.allocator());
-    for one in held.as_slice() {
-        if one.place.is_at(parent) {
-            inherited.push(in_child(*one, child))?;
-        }
-    }
-    held.append(&mut inherited)
-}
-
-// The same descriptor of the child.
-fn in_child(held: RecordedDescriptor, child: ScriptProcess) -> RecordedDescriptor
+/// The same descriptor of the child.
+pub(crate) fn in_child(held: RecordedDescriptor, child: ScriptProcess) -> RecordedDescriptor
     ensures { result ≡ in_child child held }
 {
     RecordedDescriptor {

@@ -14,12 +14,14 @@ use crate::system_call::SystemCall;
 use crate::trace::Trace;
 use model::owner::Kind;
 use std::alloc::{AllocError, Global};
+use std::collections::HashMap;
 
 /// Reads the lines of a recording.
 #[derive(Drop)]
 struct RecordingReader<'a> {
     trace: Trace<'a>,
-    pending: Vec<Pending<'a>>,
+    // The calls that are under way, by the PIDs of who made them.
+    pending: HashMap<u32, Pending<'a>>,
 }
 
 /// The events of a recording, in order, as `strace -f` writes it of the calls `fcntl`, `open`, `openat`,
@@ -34,7 +36,7 @@ struct RecordingReader<'a> {
 pub(crate) fn events_of<'a>(alloc: Global, recorded: &'a str) -> Result<Trace<'a>, AllocError> {
     let mut reader = RecordingReader {
         trace: Trace::new(alloc),
-        pending: Vec::new(alloc),
+        pending: HashMap::new(alloc),
     };
     let mut number = 0u64;
     for line in recorded.lines() {
@@ -91,16 +93,13 @@ impl<'a> RecordingReader<'a> {
 
     // The call is under way, and no other of its process or thread.
     fn wait_for(&mut self, call: Pending<'a>) -> Result<(), AllocError> {
-        self.take_pending(call.pid);
-        self.pending.push(call)?;
+        self.pending.insert(call.pid, call)?;
         Ok(())
     }
 
     // The call of that PID that is under way is so no more.
     fn take_pending(&mut self, pid: u32) -> Option<Pending<'a>> {
-        let call = self.pending.iter().find(|call| call.pid == pid).copied();
-        self.pending.retain(|call| call.pid != pid);
-        call
+        self.pending.remove(&pid)
     }
 
     // The process or thread is gone.

@@ -2,7 +2,7 @@
 use std::marker::Model;
 
 /// A process of a script: its node, 1 to 64, and its number there, 1 to 256.
-#[derive(Clone, Copy)]
+#[derive(Clone, Copy, PartialEq, Eq, Hash)]
 pub(crate) struct ScriptProcess {
     node: u8,
     number: u16,
