@@ -13,7 +13,7 @@ Exit status:
      the run was stopped as stuck; run --calm: its rounds were cut off; explore and
      run --expect: an outcome is not as expected; explore --all: not all schedules were
      gone through; from-strace: a part of the recording is not served; judge: a history,
-     or an order of one, is contradicted
+     or an order of one, is contradicted; merge: the logs have no order
   2  the words of the command line are refused
   3  SCRIPT, JOURNAL or HISTORY has a bad line, that or RECORDING can't be read, JOURNAL
      is too old to go on from, PLACES places no process, or FILE or the text can't be
@@ -61,6 +61,12 @@ To see whether what clients of any lock manager saw contradicts itself, as one t
 strace recorded:
   lockreplay judge HISTORY
   lockreplay from-strace RECORDING --history | lockreplay judge -
+To have each node and each token server as a process that reads and writes lines, the list
+of those that failed and began again, and one journal of their logs ('lockreplay seat
+--help' and so on tell more):
+  lockreplay seat node 1 --nodes 2 --files 1 --policy wide --log LOG
+  lockreplay members --nodes 2 --files 1 --state LIST
+  lockreplay merge LOG LOG LOG --members LIST --journal FILE
 
 'lockreplay help run' tells how a script is written and what the listing shows.";
 

@@ -122,8 +122,8 @@ fn sending<'a>(
     Ok(Some(entry))
 }
 
-// The complete entry, whose event loses the names in it.
-fn entry_of(alloc: Global, named: NamedEntry<'_>) -> Result<Entry, AllocError>
+/// The complete entry, whose event loses the names in it.
+pub fn entry_of(alloc: Global, named: NamedEntry<'_>) -> Result<Entry, AllocError>
     requires { NamesItsIncarnation (event_of named.event) (incarnation_of named.event) }
     ensures { IfOk result (λ entry. entry ≡ entry_in named.entry) }
 {

@@ -18,7 +18,7 @@ use message_text::numbers::FileField;
 use texts::text::{Text, split_field};
 
 /// The event, with the names in it, whose text in the version of `V` this is.
-pub(crate) fn event_in<V: Edition>(text: &str) -> Option<NamedEvent<'_>>
+pub fn event_in<V: Edition>(text: &str) -> Option<NamedEvent<'_>>
     ensures { Reads (named_text V.version) (IsServedEvent V.version) text.now result }
 {
     let (word, operands) = split_field(text)?;

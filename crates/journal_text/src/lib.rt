@@ -2,7 +2,7 @@
 //! doesn't check that the entries are a run, and knows nothing of files on a disk, or of threads.
 #![tactic(auto)]
 
-mod builder;
+pub mod builder;
 pub mod events;
 mod fits;
 pub mod head;
@@ -13,7 +13,7 @@ pub mod laws;
 pub mod lines;
 pub mod named_entry;
 pub mod named_event;
-mod operands;
+pub mod operands;
 pub mod parse;
 pub mod replies;
 pub mod sink;

@@ -14,4 +14,4 @@ pub(crate) type ProcessFields = (HostName, PidField);
 pub(crate) type LearnFields = (FileField, HostName);
 
 /// The operands of `reply`: `CALL REPLY`.
-pub(crate) type AnswerFields = (CallName, ReplyText);
+pub type AnswerFields = (CallName, ReplyText);

@@ -38,7 +38,7 @@ pub fn reply_of(text: &str) -> Option<Reply>
 }
 
 /// A reply, as a field of a line.
-pub(crate) struct ReplyText;
+pub struct ReplyText;
 
 impl Text for ReplyText {
     type Value = Reply;

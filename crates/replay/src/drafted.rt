@@ -8,8 +8,11 @@ use crate::file_reason::FileReason;
 use crate::store::{Store, StoreError};
 use std::alloc::AllocError;
 
-// What was made beside a draft, which takes the place of the file. Where memory was short for it, the draft is given up.
-pub(crate) fn committed<'a, S: Store, T: Drop>(
+/// What was made beside a draft, which takes the place of the file. Where memory was short for it, the draft is given up.
+///
+/// # Errors
+/// `CannotWrite` where the file can't be written; `NoMemory` where memory was short for what was made.
+pub fn committed<'a, S: Store, T: Drop>(
     store: &mut S,
     file: &'a str,
     draft: S::Draft,

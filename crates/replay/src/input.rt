@@ -9,8 +9,11 @@ use crate::store::{Store, StoreError};
 use std::alloc::Global;
 use std::string::FromUtf8Error;
 
-// The text of a file.
-pub(crate) fn text_of<'a, S: Store>(
+/// The text of a file.
+///
+/// # Errors
+/// `CannotRead` where the file can't be read or is not UTF-8; `NoMemory` where a request for memory was refused.
+pub fn text_of<'a, S: Store>(
     alloc: Global,
     store: &mut S,
     path: &'a str,

@@ -18,7 +18,7 @@ const ENTRIES_AT_ONCE: usize = 16_384;
 ///
 /// # Errors
 /// `AllocError` where a request for memory was refused; the journal is gone then too.
-pub(crate) fn add_journal<D: FileDraft>(
+pub fn add_journal<D: FileDraft>(
     draft: &mut D,
     alloc: Global,
     journal: Journal,
