@@ -1,3 +1,2 @@
 pub mod Weathers
 pub mod Refusals
-pub mod Distances

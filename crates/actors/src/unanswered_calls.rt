@@ -3,9 +3,9 @@ ghost use Rattle.std.specs.Prelude.{◌≡◌, ◌<◌, ◌≤◌, vec_len, OnOk
 ghost use Rattle.std.specs.Vec.{vec_capacity};
 
 use crate::call_error::CallError;
-use crate::patience::Patience;
 use book::receipt::Receipt;
 use book::stamp::Stamp;
+use distances::patience::Patience;
 use messages::event::{Event, NodeInput};
 use messages::message::Message;
 use model::mode::Mode;
@@ -177,10 +177,12 @@ impl UnansweredCalls {
 
     /// Counts a tick for the call at the index. Answers whether it is time to try the call again.
     pub(crate) fn pass_tick(&mut self, index: usize) -> bool {
-        match self.calls.get_mut(index) {
-            Some(call) => call.patience.pass_tick(),
-            None => false,
-        }
+        let Some(call) = self.calls.get_mut(index) else {
+            return false;
+        };
+        let is_due = call.patience.is_due();
+        call.patience = call.patience.after_tick();
+        is_due
     }
 
     /// Lets the open call of the process wait as if for the first time: memory for a try was refused.

@@ -11,7 +11,6 @@ use crate::letter::{Letter, Question};
 use crate::locks::lock;
 use crate::outgoing::Outgoing;
 use crate::rebuilt::Rebuilt;
-use crate::resends::Resends;
 use crate::return_paths::ReturnPaths;
 use crate::shared::Shared;
 use crate::unanswered_calls::{UnansweredCall, UnansweredCalls, may_release};
@@ -22,6 +21,7 @@ use book::receipt::Receipt;
 use book::seat::Seat;
 use book::stamp::Stamp;
 use crossbeam_channel::{Receiver, RecvTimeoutError};
+use distances::pace::Pace;
 use messages::actor::Actor;
 use messages::event::{Event, NodeInput, ServerInput};
 use messages::refusal::StepError;
@@ -49,7 +49,7 @@ pub struct Worker<W: Weather> {
     has_tick: bool,
     paths: ReturnPaths,
     waiting: UnansweredCalls,
-    resends: Resends,
+    pace: Pace,
 }
 
 // The cause for which open calls are tried again.
@@ -77,7 +77,7 @@ impl<W: Weather> Worker<W> {
             has_tick: true,
             paths: ReturnPaths::new(alloc),
             waiting: UnansweredCalls::new(alloc),
-            resends: Resends::new(),
+            pace: Pace::at_rest(),
         }
     }
 
@@ -162,8 +162,7 @@ impl<W: Weather> Worker<W> {
         rebuilt: Rebuilt<J>,
     ) -> Seat<J> {
         let Rebuilt { seat, stamp } = rebuilt;
-        self.resends = Resends::new();
-        self.resends.note(stamp.event());
+        self.pace = Pace::begun();
         self.outgoing.send_all(rt, shared, &stamp);
         seat
     }
@@ -189,7 +188,7 @@ impl<W: Weather> Worker<W> {
 
     // Gives the last tick back to the mailbox, if there is something to do at the next.
     fn ask_for_tick<J: Name, G>(&mut self, shared: &Shared<'_, J, G>) {
-        let waits = !self.waiting.is_empty() || self.resends.are_needed();
+        let waits = !self.waiting.is_empty() || !self.pace.rests;
         if !self.has_tick || (!waits && self.outgoing.is_empty()) {
             return;
         }
@@ -370,7 +369,9 @@ impl<W: Weather> Worker<W> {
         seat: &mut Seat<J>,
         file: u16,
     ) {
-        if !self.resends.pass_tick() {
+        let is_due = self.pace.is_due();
+        self.pace = self.pace.passed();
+        if !is_due {
             return;
         }
         match seat.prepare(shared.alloc, Event::AtServer(file, ServerInput::Resend)) {
@@ -391,12 +392,12 @@ impl<W: Weather> Worker<W> {
         requires { Names prepared seat.old → IsStepFrom seat.old prepared }
     {
         if prepared.outcome().sends.is_empty() {
-            self.resends.end();
+            self.pace = Pace::at_rest();
             return;
         }
         match commit_to(rt, shared, seat, prepared, None) {
             Ok(stamp) => self.outgoing.send_all(rt, shared, &stamp),
-            Err(CallError::Fenced) => self.resends.end(),
+            Err(CallError::Fenced) => self.pace = Pace::at_rest(),
             Err(CallError::NoMemory) => self.lack_memory(shared),
             Err(_) => {}
         }
@@ -405,7 +406,7 @@ impl<W: Weather> Worker<W> {
     // Notes that memory was refused as the token server would have sent again.
     fn lack_memory<J: Name, G>(&mut self, shared: &Shared<'_, J, G>) {
         shared.halt.note_refused();
-        self.resends.wait_anew();
+        self.pace = Pace::begun();
     }
 
     // Makes a step of the actor: sends its messages, and answers the call that it answers.
@@ -421,7 +422,7 @@ impl<W: Weather> Worker<W> {
         self.answer_by(rt, &stamp);
         match self.actor {
             Actor::Node(_) => self.waiting.note(&stamp),
-            Actor::Server(_) => self.resends.note(stamp.event()),
+            Actor::Server(_) => self.pace = self.pace.noted(stamp.event()),
         }
         Ok(())
     }

@@ -1,4 +1,4 @@
-pub mod Distances
+pub mod Waits
 pub mod Steps
 pub mod NodeSeats
 pub mod ServerSeats

@@ -5,8 +5,6 @@ mod begun;
 pub mod node_seat;
 mod node_ticks;
 pub mod order;
-pub mod pace;
-pub mod patience;
 pub mod seat_step;
 pub mod seated;
 pub mod server_seat;

@@ -36,6 +36,7 @@ pub struct NodeSeat {
     shape: Shape,
     members: Members,
     node: u8,
+    left: u16,
     state: Option<Node>,
     waits: Items<Wait>,
 }
@@ -46,7 +47,7 @@ impl Model for NodeSeat {
 
     ghost Value = { NodeSeatParts };
 
-    ghost view = { λ s. record { shape = s.shape; members = s.members; node = s.node; state = s.state; waits = s.waits } };
+    ghost view = { λ s. record { shape = s.shape; members = s.members; node = s.node; left = s.left; state = s.state; waits = s.waits } };
 
     ghost invariant = { λ s. IsNumber s.shape.nodes s.node };
 }
@@ -64,23 +65,26 @@ impl NodeSeat {
             shape,
             members: Members::new(alloc, shape)?,
             node,
+            left: 0,
             state: Some(Node::new(alloc, shape, node, 1)?),
             waits: Items::new(alloc),
         })
     }
 
-    /// The seat of a node that begins again later: it is to be told of all that happened to members.
+    /// The seat of a node that begins again later, behind `left` beginnings that other seats of it had: it is to be told of
+    /// all that happened to members.
     ///
     /// # Errors
     /// `AllocError` where a request for memory was refused.
-    pub fn again(alloc: Global, shape: Shape, node: u8) -> Result<NodeSeat, AllocError>
+    pub fn again(alloc: Global, shape: Shape, node: u8, left: u16) -> Result<NodeSeat, AllocError>
         requires { IsNumber shape.nodes node }
-        ensures { IfOk result (λ seat. node_seat seat ≡ later_node_seat shape node) }
+        ensures { IfOk result (λ seat. node_seat seat ≡ later_node_seat shape node left) }
     {
         Ok(NodeSeat {
             shape,
             members: Members::new(alloc, shape)?,
             node,
+            left,
             state: None,
             waits: Items::new(alloc),
         })
@@ -182,7 +186,11 @@ impl NodeSeat {
     {
         let incarnation = self.members.restart(node)?;
         if node == self.node {
-            self.state = Some(Node::new(alloc, self.shape, node, incarnation)?);
+            if self.left == 0 {
+                self.state = Some(Node::new(alloc, self.shape, node, incarnation)?);
+            } else {
+                self.left -= 1;
+            }
         }
         Ok(silent(alloc, MemberEvent::Restart { node }, incarnation)?)
     }

@@ -15,14 +15,14 @@ use crate::wait::{Wait, wait_of};
 use messages::event::{Event, NodeInput};
 use messages::items::Items;
 use messages::refusal::StepError;
-use node_core::change::Change;
+use node_core::change::NodeChange;
 use node_core::event::NodeEvent;
 use node_core::node::Node;
 use node_core::open_call::OpenCall;
 use std::alloc::{AllocError, Global};
 
 // What a retry of the call of the process does; `None` where it is refused.
-fn plan_retry(alloc: Global, state: &Node, pid: u16) -> Result<Option<Change>, AllocError>
+fn plan_retry(alloc: Global, state: &Node, pid: u16) -> Result<Option<NodeChange>, AllocError>
     ensures { IfOk result (λ found. MatchOption found ((e : StepError) × (node_rule (node_state state.now) (own.Input (input.Retry pid)) ≡ Err e))
         (λ change. Fits state.now change.edit × (node_rule (node_state state.now) (own.Input (input.Retry pid)) ≡ Ok (planned state.now change.edit, change.outcome)))) }
 {
@@ -41,7 +41,7 @@ fn make(
     state: &mut Node,
     node: u8,
     pid: u16,
-    change: Change,
+    change: NodeChange,
     steps: &mut Items<SeatStep>,
 ) -> Result<(), AllocError>
     requires { Fits state.old change.edit }
@@ -63,7 +63,7 @@ fn retry(
     node: u8,
     pid: u16,
     wait: Wait,
-    change: Change,
+    change: NodeChange,
     ticked: &mut Ticked,
 ) -> Result<(), AllocError>
     requires { Fits state.old change.edit }

@@ -18,8 +18,8 @@ ghost use Rattle.seats.specs.rule.Steps.{stepped};
 
 use crate::begun::has_begun;
 use crate::order::Order;
-use crate::pace::Pace;
 use crate::seat_step::{SeatStep, one, silent};
+use distances::pace::Pace;
 use members::members::Members;
 use messages::event::{Event, MemberEvent, ServerInput};
 use messages::items::Items;
@@ -37,6 +37,7 @@ pub struct ServerSeat {
     shape: Shape,
     members: Members,
     file: u16,
+    left: u16,
     state: Option<Server>,
     pace: Pace,
 }
@@ -46,9 +47,9 @@ impl Model for ServerSeat {
 
     ghost Value = { ServerSeatParts };
 
-    ghost view = { λ s. record { shape = s.shape; members = s.members; file = s.file; state = s.state; pace = s.pace } };
+    ghost view = { λ s. record { shape = s.shape; members = s.members; file = s.file; left = s.left; state = s.state; pace = s.pace } };
 
-    ghost invariant = { λ s. IsServerSeat (record { shape = s.shape; members = s.members; file = s.file; state = s.state; pace = s.pace }) };
+    ghost invariant = { λ s. IsServerSeat (record { shape = s.shape; members = s.members; file = s.file; left = s.left; state = s.state; pace = s.pace }) };
 }
 
 impl ServerSeat {
@@ -64,23 +65,31 @@ impl ServerSeat {
             shape,
             members: Members::new(alloc, shape)?,
             file,
+            left: 0,
             state: Some(Server::new(alloc, shape, file)?),
             pace: Pace::at_rest(),
         })
     }
 
-    /// The seat of a server that begins again later: it is to be told of all that happened to members.
+    /// The seat of a server that begins again later, behind `left` beginnings that other seats of it had: it is to be told of
+    /// all that happened to members.
     ///
     /// # Errors
     /// `AllocError` where a request for memory was refused.
-    pub fn again(alloc: Global, shape: Shape, file: u16) -> Result<ServerSeat, AllocError>
+    pub fn again(
+        alloc: Global,
+        shape: Shape,
+        file: u16,
+        left: u16,
+    ) -> Result<ServerSeat, AllocError>
         requires { IsNumber shape.files file }
-        ensures { IfOk result (λ seat. server_seat seat ≡ later_server_seat shape file) }
+        ensures { IfOk result (λ seat. server_seat seat ≡ later_server_seat shape file left) }
     {
         Ok(ServerSeat {
             shape,
             members: Members::new(alloc, shape)?,
             file,
+            left,
             state: None,
             pace: Pace::at_rest(),
         })
@@ -203,10 +212,13 @@ impl ServerSeat {
         ensures refused { (e : Refused) → e ≢ Spent → server_member_rule (server_seat self.old) (change.StartServer file) ≡ Err e → result ≡ Err e }
         ensures unchanged { IfErr result (λ e. e ≢ NoMemory → self.new ≡ self.old) }
     {
-        if file == self.file {
+        if file == self.file && self.left == 0 {
             return self.begin(alloc);
         }
         let epoch = self.members.start_server(file)?;
+        if file == self.file {
+            self.left -= 1;
+        }
         Ok(silent(alloc, MemberEvent::StartServer { file }, epoch)?)
     }
 

@@ -1,8 +1,8 @@
 //! How long an open call of a node waits.
 ghost use Rattle.std.specs.Prelude.{◌≡◌, ◌==◌, find};
-ghost use Rattle.seats.specs.rule.Distances.{first_wait, is_made, wait_of, waited};
+ghost use Rattle.seats.specs.rule.Waits.{first_wait, is_made, wait_of, waited};
 
-use crate::patience::Patience;
+use distances::patience::Patience;
 use messages::outcome::Outcome;
 
 /// An open call at the last tick: its number, when it is tried again, and whether a lock of its own node was in its way, so

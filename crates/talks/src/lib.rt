@@ -4,4 +4,4 @@
 pub mod answerer;
 mod hearing;
 pub mod talk;
-mod telling;
+pub mod telling;

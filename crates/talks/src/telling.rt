@@ -8,7 +8,7 @@ use std::io::{ErrorKind, Write};
 
 /// What was said was not written: a writer failed.
 #[derive(Clone, Copy)]
-pub(crate) struct WriteFailed;
+pub struct WriteFailed;
 
 // Writes some of the bytes, or none where the writer was interrupted.
 #[tactic(auto, using(crate::proofs::Tellings::kept_none, crate::proofs::Tellings::none_kept))]
@@ -57,11 +57,7 @@ fn put_on<W: Write>(writer: &mut W, bytes: &[u8]) -> Result<(), WriteFailed>
 ///
 /// # Errors
 /// `WriteFailed` where one of the two fails.
-pub(crate) fn tell<L: Write, W: Write>(
-    log: &mut L,
-    out: &mut W,
-    bytes: &[u8],
-) -> Result<(), WriteFailed>
+pub fn tell<L: Write, W: Write>(log: &mut L, out: &mut W, bytes: &[u8]) -> Result<(), WriteFailed>
     ensures logged { OnOk result (Appends (L.contents log.old) (L.contents log.new) bytes.now) }
     ensures wrote { OnOk result (Appends (W.contents out.old) (W.contents out.new) bytes.now) }
     ensures part { OnErr result (TellsPart (L.contents log.old) (L.contents log.new) (W.contents out.old) (W.contents out.new) bytes.now) }

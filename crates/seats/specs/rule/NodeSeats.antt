@@ -1,5 +1,5 @@
 -- The seat of a node: what it does as it is told.
-use Rattle.std.specs.Prelude.{ℕ, ◌==◌, if◌then◌else◌, List, [], ◌∷◌, ◌++◌, Option, Some, None, Result, Ok, Err}
+use Rattle.std.specs.Prelude.{ℕ, ◌-◌, ◌==◌, not, if◌then◌else◌, List, [], ◌∷◌, ◌++◌, Option, Some, None, Result, Ok, Err}
 use Rattle.std.specs.List.{fold}
 use Rattle.messages.specs.declared.event.Event.{Event}
 use Rattle.messages.specs.declared.event.Event.TheVariants.{AtNode, Deliver, Member}
@@ -22,26 +22,28 @@ use Rattle.seats.specs.declared.order.Order.{Order}
 use Rattle.seats.specs.declared.order.Order.TheVariants.{Happens, Tick}
 use Rattle.seats.specs.declared.seat_step.SeatStep.{SeatStep}
 use Rattle.seats.specs.declared.wait.Wait.{Wait}
-use Rattle.seats.specs.rule.Distances.{is_made, wait_of, waited}
+use Rattle.seats.specs.rule.Waits.{is_made, wait_of, waited}
 use Rattle.seats.specs.rule.Steps.{has_begun, of_member, step_of, stepped}
 
--- a node, its state while it works, how long its open calls wait, and the members as the seat was told of them
+-- a node, how many of its beginnings it leaves to seats before, its state while it works, how long its open calls wait, and the members as the seat was
+-- told of them
 pub record NodeSeatState : Type 0 where
   pub shape : ShapeFields
   pub nodes : MembersState
   pub servers : MembersState
   pub node : ℕ
+  pub left : ℕ
   pub state : Option NodeState
   pub waits : List Wait
 
 -- the seat of a node that works from the beginning on
 abbrev pub first_node_seat : ShapeFields → ℕ → NodeSeatState
 first_node_seat shape n =
-    record { shape = shape; nodes = first_members shape.nodes; servers = first_members shape.files; node = n; state = Some (first_node shape n 1); waits = [] }
+    record { shape = shape; nodes = first_members shape.nodes; servers = first_members shape.files; node = n; left = 0; state = Some (first_node shape n 1); waits = [] }
 
--- the seat of a node that begins again later: it is told of all that happened to members
-abbrev pub later_node_seat : ShapeFields → ℕ → NodeSeatState
-later_node_seat shape n = record (first_node_seat shape n) { state = None }
+-- the seat of a node that begins again later, behind so many beginnings of other seats: it is told of all that happened to members
+abbrev pub later_node_seat : ShapeFields → ℕ → ℕ → NodeSeatState
+later_node_seat shape n left = record (first_node_seat shape n) { left = left; state = None }
 
 -- what a seat does: it is another one then, and these steps happen; or it is refused
 abbrev pub Done : Type 0
@@ -94,8 +96,15 @@ abbrev pub after_declare : NodeSeatState → ℕ → Result (MembersState × ℕ
 after_declare s n (Ok r) = Ok ((if n == s.node then record s { nodes = r.0; state = None; waits = [] } else record s { nodes = r.0 }), of_member (Declare n) r.1 (sending []) ∷ [])
 after_declare s n (Err e) = Err e
 
+-- the node began in this incarnation: it is the seat's own, or that of a seat before, or another one
+abbrev pub begun_at : NodeSeatState → ℕ → MembersState → ℕ → NodeSeatState
+begun_at s n nodes incarnation =
+    if not (n == s.node) then record s { nodes = nodes }
+    else if s.left == 0 then record s { nodes = nodes; state = Some (first_node s.shape n incarnation) }
+    else record s { nodes = nodes; left = s.left - 1 }
+
 abbrev pub after_restart : NodeSeatState → ℕ → Result (MembersState × ℕ) Refused → Done
-after_restart s n (Ok r) = Ok ((if n == s.node then record s { nodes = r.0; state = Some (first_node s.shape n r.1) } else record s { nodes = r.0 }), of_member (Restart n) r.1 (sending []) ∷ [])
+after_restart s n (Ok r) = Ok (begun_at s n r.0 r.1, of_member (Restart n) r.1 (sending []) ∷ [])
 after_restart s n (Err e) = Err e
 
 abbrev pub with_servers : NodeSeatState → MemberEvent → Result (MembersState × ℕ) Refused → Done

@@ -6,7 +6,7 @@ use Rattle.messages.specs.rule.Shapes.{ShapeFields}
 use Rattle.members.specs.rule.Parts.{MembersParts, members_state}
 use Rattle.node_core.specs.rule.Parts.{NodeParts, node_state}
 use Rattle.token_server.specs.rule.Parts.{ServerParts, server_state}
-use Rattle.seats.specs.declared.pace.Pace.{Pace}
+use Rattle.distances.specs.declared.pace.Pace.{Pace}
 use Rattle.seats.specs.declared.wait.Wait.{Wait}
 use Rattle.seats.specs.rule.NodeSeats.{NodeSeatState}
 use Rattle.seats.specs.rule.ServerSeats.{ServerSeatState}
@@ -15,6 +15,7 @@ pub record NodeSeatParts : Type 0 where
   pub shape : ShapeFields
   pub members : MembersParts
   pub node : ℕ
+  pub left : ℕ
   pub state : Option NodeParts
   pub waits : List Wait
 
@@ -24,6 +25,7 @@ node_seat p = record {
   nodes = members_state p.members.nodes;
   servers = members_state p.members.servers;
   node = p.node;
+  left = p.left;
   state = option_map node_state p.state;
   waits = p.waits;
 }
@@ -32,6 +34,7 @@ pub record ServerSeatParts : Type 0 where
   pub shape : ShapeFields
   pub members : MembersParts
   pub file : ℕ
+  pub left : ℕ
   pub state : Option ServerParts
   pub pace : Pace
 
@@ -41,6 +44,7 @@ server_seat p = record {
   nodes = members_state p.members.nodes;
   servers = members_state p.members.servers;
   file = p.file;
+  left = p.left;
   state = option_map server_state p.state;
   pace = p.pace;
 }

@@ -1,5 +1,5 @@
 -- The seat of a token server: what it does as it is told.
-use Rattle.std.specs.Prelude.{ℕ, ◌==◌, if◌then◌else◌, List, [], ◌∷◌, Option, Some, None, Result, Ok, Err}
+use Rattle.std.specs.Prelude.{ℕ, ◌-◌, ◌==◌, not, if◌then◌else◌, List, [], ◌∷◌, Option, Some, None, Result, Ok, Err}
 use Rattle.messages.specs.declared.event.Event.{Event}
 use Rattle.messages.specs.declared.event.Event.TheVariants.{AtServer, Deliver, Member}
 use Rattle.messages.specs.declared.event.MemberEvent.{MemberEvent}
@@ -19,28 +19,31 @@ use Rattle.token_server.specs.rule.Server.{server_rule}
 use Rattle.token_server.specs.rule.State.{ServerState, first_server, rebuilt}
 use Rattle.seats.specs.declared.order.Order.{Order}
 use Rattle.seats.specs.declared.order.Order.TheVariants.{Happens, Tick}
-use Rattle.seats.specs.declared.pace.Pace.{Pace}
+use Rattle.distances.specs.declared.pace.Pace.{Pace}
 use Rattle.seats.specs.declared.seat_step.SeatStep.{SeatStep}
-use Rattle.seats.specs.rule.Distances.{at_rest, begun, is_due_at, is_none, noted, passed}
+use Rattle.distances.specs.Distances.{at_rest, begun, is_due_at, noted, passed}
+use Rattle.seats.specs.rule.Waits.{is_none}
 use Rattle.seats.specs.rule.Steps.{has_begun, of_member, step_of, stepped}
 
--- the token server of a file, its state while it works, when it sends again, and the members as the seat was told of them
+-- the token server of a file, how many of its beginnings it leaves to seats before, its state while it works, when it sends again, and the members as
+-- the seat was told of them
 pub record ServerSeatState : Type 0 where
   pub shape : ShapeFields
   pub nodes : MembersState
   pub servers : MembersState
   pub file : ℕ
+  pub left : ℕ
   pub state : Option ServerState
   pub pace : Pace
 
 -- the seat of a server that works from the beginning on
 abbrev pub first_server_seat : ShapeFields → ℕ → ServerSeatState
 first_server_seat shape file =
-    record { shape = shape; nodes = first_members shape.nodes; servers = first_members shape.files; file = file; state = Some (first_server shape file); pace = at_rest }
+    record { shape = shape; nodes = first_members shape.nodes; servers = first_members shape.files; file = file; left = 0; state = Some (first_server shape file); pace = at_rest }
 
--- the seat of a server that begins again later: it is told of all that happened to members
-abbrev pub later_server_seat : ShapeFields → ℕ → ServerSeatState
-later_server_seat shape file = record (first_server_seat shape file) { state = None }
+-- the seat of a server that begins again later, behind so many beginnings of other seats: it is told of all that happened to members
+abbrev pub later_server_seat : ShapeFields → ℕ → ℕ → ServerSeatState
+later_server_seat shape file left = record (first_server_seat shape file) { left = left; state = None }
 
 -- what a seat does: it is another one then, and these steps happen; or it is refused
 abbrev pub Done : Type 0
@@ -129,8 +132,16 @@ abbrev pub with_servers : ServerSeatState → MemberEvent → Result (MembersSta
 with_servers s change (Ok r) = Ok (record s { servers = r.0 }, of_member change r.1 (sending []) ∷ [])
 with_servers s change (Err e) = Err e
 
+-- the server of the file began again as another seat had it
+abbrev pub left_to_others : ServerSeatState → Result (MembersState × ℕ) Refused → Done
+left_to_others s (Ok r) = Ok (record s { servers = r.0; left = s.left - 1 }, of_member (StartServer s.file) r.1 (sending []) ∷ [])
+left_to_others s (Err e) = Err e
+
 abbrev pub started_at : ServerSeatState → ℕ → Done
-started_at s f = if f == s.file then begun_at s else with_servers s (StartServer f) (restarted s.servers f)
+started_at s f =
+    if not (f == s.file) then with_servers s (StartServer f) (restarted s.servers f)
+    else if s.left == 0 then begun_at s
+    else left_to_others s (restarted s.servers f)
 
 -- a member is declared failed, or begins again: a server that works learns of a node; the seat's own server stops, or is rebuilt
 abbrev pub server_member_rule : ServerSeatState → MemberEvent → Done

@@ -1,6 +1,6 @@
 //! When a token server sends again.
 ghost use Rattle.std.specs.Prelude.{◌≡◌};
-ghost use Rattle.seats.specs.rule.Distances.{at_rest, begun, is_answer, is_due_at, noted, passed};
+ghost use Rattle.distances.specs.Distances.{at_rest, begun, is_answer, is_due_at, noted, passed};
 
 use crate::patience::Patience;
 use messages::event::Event;
@@ -36,7 +36,7 @@ impl Pace {
 
     /// The pace after a step of the server at this event: it goes on to wait, or begins to where it rested, or where the event
     /// is an answer of a node.
-    pub(crate) fn noted(self, event: &Event) -> Pace
+    pub fn noted(self, event: &Event) -> Pace
         ensures { result ≡ noted self event.now }
     {
         if self.rests || is_answer(event) {
@@ -46,14 +46,14 @@ impl Pace {
     }
 
     /// Whether the next tick brings a resend.
-    pub(crate) fn is_due(self) -> bool
+    pub fn is_due(self) -> bool
         ensures { result ≡ is_due_at self }
     {
         !self.rests && self.patience.is_due()
     }
 
     /// The pace after a tick.
-    pub(crate) fn passed(self) -> Pace
+    pub fn passed(self) -> Pace
         ensures { result ≡ passed self }
     {
         Pace {

@@ -1,13 +1,11 @@
--- When an actor tries again, in ticks.
-use Rattle.std.specs.Prelude.{ℕ, ◌-◌, ◌*◌, ◌&&◌, ◌||◌, ◌==◌, not, min, nat_lt, if◌then◌else◌, Bool, true, false, List, [], ◌∷◌, find, Option, Some, None}
+-- The ticks that go by before an actor tries something again.
+use Rattle.std.specs.Prelude.{ℕ, ◌-◌, ◌*◌, ◌&&◌, ◌||◌, not, min, nat_lt, if◌then◌else◌, Bool, true, false}
 use Rattle.messages.specs.declared.event.Event.{Event}
 use Rattle.messages.specs.declared.event.Event.TheVariants.{Deliver}
 use Rattle.messages.specs.declared.message.Message.{Message}
 use Rattle.messages.specs.declared.message.Message.TheVariants.{Taken, Released, Conflict, Report}
-use Rattle.messages.specs.declared.outcome.Outcome.{Outcome}
-use Rattle.seats.specs.declared.pace.Pace.{Pace}
-use Rattle.seats.specs.declared.patience.Patience.{Patience}
-use Rattle.seats.specs.declared.wait.Wait.{Wait}
+use Rattle.distances.specs.declared.pace.Pace.{Pace}
+use Rattle.distances.specs.declared.patience.Patience.{Patience}
 
 -- the number of ticks before the first try
 abbrev pub first_distance : ℕ
@@ -30,34 +28,6 @@ abbrev pub after_tick : Patience → Patience
 after_tick p =
     if is_due p then record { between = next_distance p.between; left = next_distance p.between }
     else record { between = p.between; left = p.left - 1 }
-
--- a call that its node took since the last tick
-abbrev pub first_wait : ℕ → Wait
-first_wait number = record { number = number; patience = at_first; blocked = false }
-
-abbrev pub or_first : ℕ → Option Wait → Wait
-or_first number None = first_wait number
-or_first number (Some w) = w
-
--- the wait of the open call with this number, by what was open at the last tick
-abbrev pub wait_of : List Wait → ℕ → Wait
-wait_of waits number = or_first number (find (λ w. w.number == number) waits)
-
-abbrev pub is_some : {A : Type 0} → Option A → Bool
-is_some None = false
-is_some (Some x) = true
-
-abbrev pub is_none : {A : Type 0} → List A → Bool
-is_none [] = true
-is_none (x ∷ xs) = false
-
--- a try that comes to this is made: it answers the call; or it sends something, and its time has come, or a lock of the node was in its way at the last tick
-abbrev pub is_made : Wait → Outcome → Bool
-is_made w o = is_some o.reply || (not (is_none o.sends) && (w.blocked || is_due w.patience))
-
--- the wait after a tick at which a try comes, or would come, to this
-abbrev pub waited : Wait → Outcome → Wait
-waited w o = record { number = w.number; patience = after_tick w.patience; blocked = not (is_some o.reply) && is_none o.sends }
 
 -- a token server that has nothing to send again
 abbrev pub at_rest : Pace
