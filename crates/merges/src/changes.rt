@@ -47,6 +47,11 @@ impl Changes {
         self.changes.get(self.put).copied()
     }
 
+    /// How many of them a merge has put.
+    pub(crate) fn put(&self) -> usize {
+        self.put
+    }
+
     /// The list goes on behind the first.
     pub(crate) fn pass(&mut self)
         ensures { (c : LoggedChange) (cs : List LoggedChange) → self.old ≡ c ∷ cs → self.new ≡ cs }

@@ -13,5 +13,6 @@ mod merger;
 mod names;
 mod queue;
 mod steps;
+pub mod stuck;
 #[cfg(test)]
 mod tests;

@@ -66,6 +66,11 @@ impl Log {
         self.entries.get(self.put)
     }
 
+    /// How many entries a merge has put.
+    pub(crate) fn put(&self) -> usize {
+        self.put
+    }
+
     /// The log goes on behind its first entry.
     pub(crate) fn pass(&mut self)
         ensures { (x : LoggedEntry) (xs : List LoggedEntry) → self.old.entries ≡ x ∷ xs → self.new ≡ record self.old { entries = xs } }

@@ -10,6 +10,7 @@ use crate::changes::Changes;
 use crate::log::Log;
 use crate::merge_error::MergeError;
 use crate::merger::Merger;
+use crate::stuck::Stuck;
 use cluster_core::journal::Journal;
 use messages::shape::Shape;
 use std::alloc::Global;
@@ -20,13 +21,14 @@ use std::alloc::Global;
 /// # Errors
 /// `TwoLogs` where two logs are of one incarnation of an actor; `NoOrder` where there is no such order; `JournalFull`
 /// where in each such order there are more entries than a journal may have; `NoMemory` where a request for memory was
-/// refused.
+/// refused. Behind `NoOrder`, `told` has what can't go on; it gets it as far as there is memory.
 pub fn merge(
     alloc: Global,
     shape: Shape,
     skew: u64,
     logs: Vec<Log>,
     declared: Changes,
+    told: &mut Vec<Stuck>,
 ) -> Result<Journal, MergeError>
     ensures shape { IfOk result (λ journal. journal.shape ≡ shape) }
     ensures merged { IfOk result (λ journal. AreMerged shape skew (log_of logs.items) declared journal.entries) }
@@ -41,7 +43,7 @@ pub fn merge(
     ensures two { (a : Actor) (incarnation : ℕ) → result ≡ Err (TwoLogs a incarnation) → ¬ AreOfDifferent logs.items }
 {
     let mut merger = Merger::new(alloc, shape, skew, logs, declared)?;
-    merger.put_all(alloc)?;
+    merger.put_all(alloc, told)?;
     if !merger.is_done() {
         return Err(MergeError::NoOrder);
     }

@@ -19,6 +19,7 @@ use std::alloc::{AllocError, Global};
 mod changing;
 mod queued;
 mod rounds;
+mod telling;
 
 /// The run that was made of entries that are put, and what is left. What is left had not ended before the floor.
 #[derive(Drop)]

@@ -79,7 +79,8 @@ fn logs(alloc: Global, shape: Shape, moment: u64) -> Option<Vec<Log>> {
 fn merged(alloc: Global, skew: u64, moment: u64) -> Option<Result<usize, MergeError>> {
     let shape = Shape::new(2, 1, Policy::Wide).ok()?;
     let logs = logs(alloc, shape, moment)?;
-    match merge(alloc, shape, skew, logs, changes(alloc)?) {
+    let mut told = Vec::new(alloc);
+    match merge(alloc, shape, skew, logs, changes(alloc)?, &mut told) {
         Ok(journal) => Some(Ok(journal.entries().len())),
         Err(error) => Some(Err(error)),
     }

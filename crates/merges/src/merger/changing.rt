@@ -27,6 +27,16 @@ fn is_awaited(world: &World, log: &Log, event: MemberEvent) -> bool
 }
 
 impl Merger {
+    /// Whether an actor that the event declares failed has entries left in the log of its incarnation.
+    pub(super) fn awaits_log(&self, event: MemberEvent) -> bool {
+        for log in self.logs.iter() {
+            if is_awaited(self.run.world(), log, event) {
+                return true;
+            }
+        }
+        false
+    }
+
     // Whether an actor that the event declares failed has entries left in the log of its incarnation.
     fn is_too_early(&self, event: MemberEvent) -> bool
         requires { IsMerger (fields_of self.now) }

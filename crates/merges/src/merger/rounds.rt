@@ -5,6 +5,7 @@ ghost use Rattle.merges.specs.code.Mergers.{IsMerger, Fails, IsExact, IsStuck, L
 
 use super::Merger;
 use crate::merge_error::MergeError;
+use crate::stuck::Stuck;
 use cluster_core::run::Run;
 use std::alloc::Global;
 
@@ -43,8 +44,8 @@ impl Merger {
         Ok(put)
     }
 
-    /// Puts whatever may be put, until nothing may.
-    pub(crate) fn put_all(&mut self, alloc: Global) -> Result<(), MergeError>
+    // Puts whatever may be put, until nothing may.
+    fn put_until_stuck(&mut self, alloc: Global) -> Result<(), MergeError>
         requires { IsMerger (fields_of self.old) }
         ensures puts { OnOk result (PutsOn (fields_of self.old) (fields_of self.new)) }
         ensures stuck { OnOk result (IsStuck (fields_of self.new)) }
@@ -53,6 +54,18 @@ impl Merger {
         self.put_most(alloc)?;
         while self.put_round(alloc)? {}
         Ok(())
+    }
+
+    /// Puts whatever may be put, until nothing may. What is left is told, as far as there is memory for it.
+    pub(crate) fn put_all(&mut self, alloc: Global, told: &mut Vec<Stuck>) -> Result<(), MergeError>
+        requires { IsMerger (fields_of self.old) }
+        ensures puts { OnOk result (PutsOn (fields_of self.old) (fields_of self.new)) }
+        ensures stuck { OnOk result (IsStuck (fields_of self.new)) }
+        ensures fails { IfErr result (λ e. Fails e (fields_of self.old)) }
+    {
+        let put = self.put_until_stuck(alloc);
+        let _ = self.tell(told);
+        put
     }
 
     /// Whether nothing is left.

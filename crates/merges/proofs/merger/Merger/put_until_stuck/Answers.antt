@@ -1,7 +1,7 @@
 use Rattle.std.proofs.lemmas.Result.{err_from_is_err_and}
 use Rattle.merges.specs.code.Mergers.{fields_of}
 use Rattle.merges.proofs.Mergers.{puts_both, fails_before}
-use Rattle.merges.proofs.merger.Merger.put_all.Goals as goal
+use Rattle.merges.proofs.merger.Merger.put_until_stuck.Goals as goal
 
 pub returns-in_err-put_round-clause-fails : goal.returns-in_err-put_round-clause-fails
 returns-in_err-put_round-clause-fails c =

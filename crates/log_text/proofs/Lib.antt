@@ -1,0 +1,5 @@
+pub mod Tearing
+pub mod Taking
+pub mod Passing
+pub mod Listing
+pub mod Lines
