@@ -5,6 +5,7 @@ use replay::disk::Disk;
 use replay::meter::Meter;
 use replay::respond::{refuse, respond};
 use replay::words::read_words;
+use seat_commands::attend::attend;
 use std::io::IsTerminal;
 use std::process::ExitCode;
 
@@ -16,15 +17,27 @@ fn main(rt: HostRuntime) -> ExitCode {
     let status = match read_words(&rt) {
         Ok(words) => {
             let mut disk = Disk::new(&rt);
-            respond(
+            let attended = attend(
                 &rt,
                 rt.alloc(),
                 words.as_slice(),
+                rt.stdin(),
                 &mut disk,
                 &mut out,
                 &mut err,
-                &mut meter,
-            )
+            );
+            match attended {
+                Some(status) => status,
+                None => respond(
+                    &rt,
+                    rt.alloc(),
+                    words.as_slice(),
+                    &mut disk,
+                    &mut out,
+                    &mut err,
+                    &mut meter,
+                ),
+            }
         }
         Err(refusal) => refuse(&refusal, &mut out, &mut err),
     };
