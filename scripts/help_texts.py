@@ -4,11 +4,14 @@ import re
 import subprocess
 
 NAME = "lockreplay"
-FILES = ("SCRIPT", "JOURNAL", "RECORDING", "HISTORY", "FILE")
+FILES = ("SCRIPT", "JOURNAL", "RECORDING", "HISTORY", "FILE", "LOG", "STATE", "MEMBERS")
 HEADINGS = ("Usage:", "Commands:", "Arguments:", "Options:")
+# Commands that have their help of their own, and of which the list in the program's help says nothing.
+APART = ("seat", "members", "merge")
 COMMAND = re.compile(r"  (\S+)  +(.+)")
 OPERAND = re.compile(r"  [<\[](\w+)[>\]](\.\.\.)?(?:  (.+))?")
 OPTION = re.compile(r" {2,6}(?:-(\w), )?--([\w-]+)(?: <(\w+)>)?")
+POSSIBLE = re.compile(r" \[possible values: (.*), (\S+)\]$")
 LISTED = re.compile(r"\bas ([\w-]+(?:, [\w-]+)* or [\w-]+)$")
 
 # An operand; whether it may stand there several times.
@@ -26,12 +29,12 @@ def printed(program, *words):
 
 
 def read(program):
-    """The program itself as a command, and then its commands, in the order of its help."""
+    """The program itself as a command, and then its commands, in the order of its help, `help` last."""
     whole, names = sections(printed(program, "help"))
     found = [command_of(NAME, whole)]
-    for line in names:
-        name, _ = COMMAND.fullmatch(line).groups()
-        help_of, _ = sections(printed(program, "help", name))
+    told = [COMMAND.fullmatch(line)[1] for line in names]
+    for name in [*told[:-1], *APART, told[-1]]:
+        help_of, _ = sections(printed(program, *((name, "--help") if name in APART else ("help", name))))
         found.append(command_of(name, help_of))
     return found
 
@@ -77,7 +80,7 @@ def text_of(lines):
     """What the lines behind an argument say of it, and the default that they name."""
     text = " ".join(line for line in lines if line)
     said, _, default = text.partition(" [default: ")
-    return said, default.rstrip("]")
+    return POSSIBLE.sub(r", as \1 or \2", said), default.rstrip("]")
 
 
 def operand_of(name, many, text, lines):
