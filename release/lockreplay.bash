@@ -40,7 +40,7 @@ _lockreplay() {
     [[ $before != = ]] || before=${COMP_WORDS[COMP_CWORD - 2]}
     [[ $word != = ]] || word=
     if ((COMP_CWORD == 1)); then
-        if [[ $word == -* ]]; then _lockreplay_words '-h --help -V --version'; else _lockreplay_words 'run threads audit history explain open state check picture stats from-strace explore schedule judge help'; fi
+        if [[ $word == -* ]]; then _lockreplay_words '-h --help -V --version'; else _lockreplay_words 'run threads audit history explain open state check picture stats from-strace explore schedule judge seat members merge help'; fi
         return
     fi
     case ${COMP_WORDS[1]} in
@@ -127,8 +127,34 @@ _lockreplay() {
         *) _lockreplay_rest 9999 9999 '--steps --explains --allow' '--allow' '--steps --explains --allow --order --go-on --stats --json --picture -h --help'
         esac
         ;;
+    seat)
+        case $before in
+        --nodes) : ;;
+        --files) : ;;
+        --policy) _lockreplay_words 'wide exact' ;;
+        --past) : ;;
+        --log) compopt -o default ;;
+        *) _lockreplay_rest 2 0 '--nodes --files --policy --past --log' '' '--nodes --files --policy --again --past --log --clock -h --help'
+        esac
+        ;;
+    members)
+        case $before in
+        --nodes) : ;;
+        --files) : ;;
+        --state) compopt -o default ;;
+        *) _lockreplay_rest 0 0 '--nodes --files --state' '' '--nodes --files --state --clock -h --help'
+        esac
+        ;;
+    merge)
+        case $before in
+        --journal) compopt -o default ;;
+        --members) compopt -o default ;;
+        --skew) : ;;
+        *) _lockreplay_rest 9999 9999 '--journal --members --skew' '' '--journal --members --check --skew -h --help'
+        esac
+        ;;
     help)
-        ((COMP_CWORD > 2)) || _lockreplay_words 'run threads audit history explain open state check picture stats from-strace explore schedule judge'
+        ((COMP_CWORD > 2)) || _lockreplay_words 'run threads audit history explain open state check picture stats from-strace explore schedule judge seat members merge'
         ;;
     esac
 }

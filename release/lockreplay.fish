@@ -50,6 +50,9 @@ complete -c lockreplay -n __lockreplay_begins -a from-strace -d 'Turn the output
 complete -c lockreplay -n __lockreplay_begins -a explore -d 'Run a script under many schedules and tell the outcomes'
 complete -c lockreplay -n __lockreplay_begins -a schedule -d 'Print the script of a schedule'
 complete -c lockreplay -n __lockreplay_begins -a judge -d 'Judge what clients of a lock manager saw'
+complete -c lockreplay -n __lockreplay_begins -a seat -d 'Be one node or one token server, by lines'
+complete -c lockreplay -n __lockreplay_begins -a members -d 'Keep the list of declarations and starts, by lines'
+complete -c lockreplay -n __lockreplay_begins -a merge -d 'Make one journal of the logs of seats'
 complete -c lockreplay -n __lockreplay_begins -a help -d 'Print this message or the help of the given subcommand(s)'
 complete -c lockreplay -n __lockreplay_begins -s h -l help -d 'Print help'
 complete -c lockreplay -n __lockreplay_begins -s V -l version -d 'Print version'
@@ -143,6 +146,28 @@ complete -c lockreplay -n '__lockreplay_is judge' -l json -d 'Print the text as 
 complete -c lockreplay -n '__lockreplay_is judge' -l picture -d 'Draw the first call that fits nowhere, as SVG'
 complete -c lockreplay -n '__lockreplay_is judge' -s h -l help -d 'Print help'
 
+complete -c lockreplay -n '__lockreplay_is seat' -l nodes -x -d 'The nodes of the cluster, from 1 to 64'
+complete -c lockreplay -n '__lockreplay_is seat' -l files -x -d 'The files of the cluster, from 1 to 256'
+complete -c lockreplay -n '__lockreplay_is seat' -l policy -x -a 'wide exact' -d 'How many bytes a node asks for beyond those of a call, as wide or exact'
+complete -c lockreplay -n '__lockreplay_is seat' -l again -d 'Work only once the actor begins again'
+complete -c lockreplay -n '__lockreplay_is seat' -l past -x -d 'With --again: how many times it begins again before that'
+complete -c lockreplay -n '__lockreplay_is seat' -l log -r -F -d 'Write each block to LOG first, behind what it has'
+complete -c lockreplay -n '__lockreplay_is seat' -l clock -d 'Begin blocks with two readings of the clock'
+complete -c lockreplay -n '__lockreplay_is seat' -s h -l help -d 'Print help'
+
+complete -c lockreplay -n '__lockreplay_is members' -l nodes -x -d 'The nodes of the cluster, from 1 to 64'
+complete -c lockreplay -n '__lockreplay_is members' -l files -x -d 'The files of the cluster, from 1 to 256'
+complete -c lockreplay -n '__lockreplay_is members' -l state -r -F -d 'The file that has the list'
+complete -c lockreplay -n '__lockreplay_is members' -l clock -d 'Begin blocks with two readings of the clock'
+complete -c lockreplay -n '__lockreplay_is members' -s h -l help -d 'Print help'
+
+complete -c lockreplay -n '__lockreplay_file merge 9999 --journal --members --skew' -F
+complete -c lockreplay -n '__lockreplay_is merge' -l journal -r -F -d 'Write the journal to JOURNAL'
+complete -c lockreplay -n '__lockreplay_is merge' -l members -r -F -d 'The list of declarations and starts'
+complete -c lockreplay -n '__lockreplay_is merge' -l check -d 'Only tell whether there is a journal'
+complete -c lockreplay -n '__lockreplay_is merge' -l skew -x -d 'By how many microseconds clocks may differ'
+complete -c lockreplay -n '__lockreplay_is merge' -s h -l help -d 'Print help'
+
 complete -c lockreplay -n __lockreplay_helps -a run
 complete -c lockreplay -n __lockreplay_helps -a threads
 complete -c lockreplay -n __lockreplay_helps -a audit
@@ -157,3 +182,6 @@ complete -c lockreplay -n __lockreplay_helps -a from-strace
 complete -c lockreplay -n __lockreplay_helps -a explore
 complete -c lockreplay -n __lockreplay_helps -a schedule
 complete -c lockreplay -n __lockreplay_helps -a judge
+complete -c lockreplay -n __lockreplay_helps -a seat
+complete -c lockreplay -n __lockreplay_helps -a members
+complete -c lockreplay -n __lockreplay_helps -a merge
