@@ -69,6 +69,12 @@ class Talk:
             await self.process.wait()
 
 
+def has_begun(log):
+    """Whether the seat of the log wrote its first block: one that was killed before that did nothing."""
+    with open(log, encoding="utf-8", errors="replace") as file:
+        return any(line.startswith("end ") and line.endswith("\n") for line in file)
+
+
 class Seat(Talk):
     """The process of one actor. It is told the lines of its inbox, one after the other."""
 
@@ -389,6 +395,9 @@ class Cluster:
         for task in list(self.tasks):
             task.cancel()
         await asyncio.gather(*(talk.end() for talk in [*self.all, self.members]))
+        for seat in self.all:
+            if os.path.exists(seat.log) and not has_begun(seat.log):
+                os.remove(seat.log)
         for name, number in sorted(self.counts.items()):
             print(f"{name}: {number}")
 
