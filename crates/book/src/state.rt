@@ -135,8 +135,7 @@ impl State {
         match self {
             State::OfNode { number, node } => {
                 let change = planned_node(alloc, *number, node, event)?;
-                let edit = Box::new(alloc, change.edit)?;
-                Ok((StateEdit::Node(edit), change.outcome))
+                Ok((StateEdit::Node(change.edit), change.outcome))
             }
             State::OfServer { file, server } => {
                 let change = planned_server(alloc, *file, server, event)?;
@@ -153,10 +152,7 @@ impl State {
     {
         match self {
             State::OfNode { node, .. } => match edit {
-                StateEdit::Node(edit) => {
-                    let edit = Box::into_inner(edit);
-                    node.apply(NodeChange { edit, outcome })
-                }
+                StateEdit::Node(edit) => node.apply(NodeChange { edit, outcome }),
                 StateEdit::Server(_) => unreachable!(),
             },
             State::OfServer { server, .. } => match edit {

@@ -300,7 +300,7 @@ impl World {
                 node,
                 incarnation,
                 change,
-            } => self.change_node(alloc, event, node, incarnation, Box::into_inner(change)),
+            } => self.change_node(alloc, event, node, incarnation, change),
             WorldChange::OfServer { file, change } => self.change_server(
                 alloc, event, file, change,
             ),

@@ -1,5 +1,6 @@
 -- A planned step changes the node as the rule says.
-use Rattle.std.specs.Prelude.{◌≡◌, ℕ, ◌+◌, ◌<◌, ◌==◌, ◌&&◌, Bool, true, false, not, if◌then◌else◌, List, [], ◌∷◌, ◌++◌, All, length, Option, Some, Result, Ok, Err, IfOk, filter, refl}
+use Rattle.std.specs.Global.{Global}
+use Rattle.std.specs.Prelude.{◌≡◌, ℕ, ◌+◌, ◌<◌, ◌==◌, ◌&&◌, Bool, true, false, not, if◌then◌else◌, List, [], ◌∷◌, ◌++◌, All, length, Option, Some, Box, Result, Ok, Err, IfOk, filter, refl}
 use Rattle.std.specs.declared.alloc.AllocError.{AllocError}
 use Rattle.std.proofs.Common.{arith, ap, sym, subst, ◌∙◌}
 use Rattle.std.proofs.lemmas.Bool.{ne_eqb}
@@ -39,7 +40,7 @@ use Rattle.node_core.specs.rule.Files.{file_state}
 use Rattle.node_core.specs.rule.State.{FileState, NodeState, Effect, host, outcome}
 use Rattle.node_core.specs.rule.Try.{with_freed}
 use Rattle.node_core.specs.rule.Parts.{NodeParts, node_state, IsOwnCall, IsNode}
-use Rattle.node_core.specs.code.Plans.{calls_after, table_after, pending_after, edit_in, files_after, told, files_told, drafted, planned, effect_of, TableFits, CallsFit, PartsFit, Fits}
+use Rattle.node_core.specs.code.Plans.{calls_after, table_after, pending_after, edit_in, files_after, told, files_told, drafted, made, planned, effect_of, TellsOf, TableFits, CallsFit, EditFits, PartsFit, Fits}
 use Rattle.node_core.proofs.NodeLaws.{around-own}
 
 pub on : {A : Type 0} (b : Bool) (x y : A) → b ≡ true → (if b then x else y) ≡ x
@@ -67,38 +68,38 @@ rises-more (f ∷ more) file rises =
     let here : f < file + 1 = omega arith in
     All-cons (λ k. k < file + 1) f more here (rises-more more file (All-tail (λ k. k < file) f more rises))
 
-owes-still : (p : NodeParts) (e : EffectFields) (file : ℕ) (b : Bool) → All (λ f. f < file) e.edit.freed → ((drafted p e.edit.draft).files file).owes_freed ≡ b → ((planned p e.edit).files file).owes_freed ≡ b
+owes-still : (p : NodeParts) (e : EffectFields) (file : ℕ) (b : Bool) → All (λ f. f < file) e.edit.value.freed → ((drafted p e.edit.value.draft).files file).owes_freed ≡ b → ((planned p e.edit).files file).owes_freed ≡ b
 owes-still p e file b rises asked =
-    ap (λ (f : FileState). f.owes_freed) (told-other (drafted p e.edit.draft).files e.edit.freed file rises) ∙ asked
+    ap (λ (f : FileState). f.owes_freed) (told-other (drafted p e.edit.value.draft).files e.edit.value.freed file rises) ∙ asked
 
 -- the effect of a step that sends a Freed for one more file, which is owed
-pub told-effect : (p : NodeParts) (e : EffectFields) (file : ℕ) (r : Result EffectFields AllocError) → All (λ f. f < file) e.edit.freed → ((drafted p e.edit.draft).files file).owes_freed ≡ true → IfOk r (λ t. t ≡ record { edit = record e.edit { freed = e.edit.freed ++ file ∷ [] }; reply = e.reply; sends = e.sends ++ Freed file (host (node_state p)) ∷ [] }) → IfOk r (λ told. with_freed file (effect_of p e) ≡ effect_of p told)
-told-effect p e file (Err x) rises asked made = tt
-told-effect p e file (Ok t) rises asked made =
-    let files = (drafted p e.edit.draft).files in
+pub told-effect : (p : NodeParts) (e : EffectFields) (file : ℕ) (r : Result EffectFields AllocError) → All (λ f. f < file) e.edit.value.freed → ((drafted p e.edit.value.draft).files file).owes_freed ≡ true → IfOk r (TellsOf file (Freed file (host (node_state p))) e) → IfOk r (λ told. with_freed file (effect_of p e) ≡ effect_of p told)
+told-effect p e file (Err x) rises asked same = tt
+told-effect p e file (Ok t) rises asked same =
+    let files = (drafted p e.edit.value.draft).files in
     let hears : (ℕ → FileState) → Effect = λ known. record { state = record (planned p e.edit) { files = known }; reply = e.reply; sends = e.sends ++ Freed file (host (node_state p)) ∷ [] } in
-    on ((planned p e.edit).files file).owes_freed (hears (told (files_told files e.edit.freed) file)) (effect_of p e) (owes-still p e file true rises asked)
-    ∙ ap hears (sym (told-push files e.edit.freed file))
-    ∙ sym (ap (effect_of p) made)
+    on ((planned p e.edit).files file).owes_freed (hears (told (files_told files e.edit.value.freed) file)) (effect_of p e) (owes-still p e file true rises asked)
+    ∙ ap hears (sym (told-push files e.edit.value.freed file))
+    ∙ sym (λ i. record { state = made p (same.0 i); reply = same.1 i; sends = same.2 i })
 
 -- a change still fits if it sends a Freed for one more file
-pub told-fits : (p : NodeParts) (e : EffectFields) (file : ℕ) (m : Message) (r : Result EffectFields AllocError) → PartsFit p e.edit → IsNumber (node_state p).shape.files file → IfOk r (λ t. t ≡ record { edit = record e.edit { freed = e.edit.freed ++ file ∷ [] }; reply = e.reply; sends = e.sends ++ m ∷ [] }) → IfOk r (λ t. PartsFit p t.edit)
-told-fits p e file m (Err x) fits within made = tt
-told-fits p e file m (Ok t) fits within made =
-    subst (λ (x : EffectFields). PartsFit p x.edit) (sym made) (fits.0, fits.1, fits.2, All-push (IsNumber (node_state p).shape.files) e.edit.freed file fits.3 within)
+pub told-fits : (p : NodeParts) (e : EffectFields) (file : ℕ) (m : Message) (r : Result EffectFields AllocError) → PartsFit p e.edit → IsNumber (node_state p).shape.files file → IfOk r (TellsOf file m e) → IfOk r (λ t. PartsFit p t.edit)
+told-fits p e file m (Err x) fits within same = tt
+told-fits p e file m (Ok t) fits within same =
+    subst (EditFits p) (sym same.0) (fits.0, fits.1, fits.2, All-push (IsNumber (node_state p).shape.files) e.edit.value.freed file fits.3 within)
 
 -- the files for which a Freed is sent still rise
-pub told-rises : (e : EffectFields) (file : ℕ) (m : Message) (r : Result EffectFields AllocError) → All (λ f. f < file) e.edit.freed → IfOk r (λ t. t ≡ record { edit = record e.edit { freed = e.edit.freed ++ file ∷ [] }; reply = e.reply; sends = e.sends ++ m ∷ [] }) → IfOk r (λ t. All (λ f. f < file + 1) t.edit.freed)
-told-rises e file m (Err x) rises made = tt
-told-rises e file m (Ok t) rises made =
+pub told-rises : (e : EffectFields) (file : ℕ) (m : Message) (r : Result EffectFields AllocError) → All (λ f. f < file) e.edit.value.freed → IfOk r (TellsOf file m e) → IfOk r (λ t. All (λ f. f < file + 1) t.edit.value.freed)
+told-rises e file m (Err x) rises same = tt
+told-rises e file m (Ok t) rises same =
     let here : file < file + 1 = omega arith in
-    subst (λ (x : EffectFields). All (λ f. f < file + 1) x.edit.freed) (sym made) (All-push (λ f. f < file + 1) e.edit.freed file (rises-more e.edit.freed file rises) here)
+    subst (λ (x : NodeEdit). All (λ f. f < file + 1) x.freed) (sym same.0) (All-push (λ f. f < file + 1) e.edit.value.freed file (rises-more e.edit.value.freed file rises) here)
 
 -- the effect of a step stays if no Freed is owed for the file
-pub told-nothing : (p : NodeParts) (e : EffectFields) (file : ℕ) → All (λ f. f < file) e.edit.freed → ((drafted p e.edit.draft).files file).owes_freed ≡ false → with_freed file (effect_of p e) ≡ effect_of p e
+pub told-nothing : (p : NodeParts) (e : EffectFields) (file : ℕ) → All (λ f. f < file) e.edit.value.freed → ((drafted p e.edit.value.draft).files file).owes_freed ≡ false → with_freed file (effect_of p e) ≡ effect_of p e
 told-nothing p e file rises asked =
-    let files = (drafted p e.edit.draft).files in
-    let heard : Effect = record { state = record (planned p e.edit) { files = told (files_told files e.edit.freed) file }; reply = e.reply; sends = e.sends ++ Freed file (host (node_state p)) ∷ [] } in
+    let files = (drafted p e.edit.value.draft).files in
+    let heard : Effect = record { state = record (planned p e.edit) { files = told (files_told files e.edit.value.freed) file }; reply = e.reply; sends = e.sends ++ Freed file (host (node_state p)) ∷ [] } in
     ap (λ (b : Bool). if b then heard else effect_of p e) (owes-still p e file false rises asked)
 
 -- the outcome of a planned step is the one of its effect
@@ -124,10 +125,10 @@ processes-left h rows left locks e made on =
     (λ i. record { limit = locks.limit; on = with_host on h (is i); locks = held locks })
     ∙ sym (λ i. record { limit = locks.limit; on = λ n k. if-if ((n == h.node) && (k == h.incarnation)) (edited own e) (processes rows) (on n k) i; locks = held locks })
 
-pub node-planned : (p : NodeParts) (e : NodeEdit) (calls : ℕ) (rows : List ProcessEntry) (locks : TableParts) (pending : List OpenCall) (files : List FileRow) → calls ≡ calls_after p.calls e.draft.numbered → Leaves (host (node_state p)) p.processes p.locks e.table rows locks → pending ≡ pending_after p.pending e.calls → file_state files ≡ files_told (files_after (file_state p.files) p.files (edit_in e.draft.command)) e.freed → node_state (changed p calls rows locks pending files) ≡ planned p e
+pub node-planned : (p : NodeParts) (e : NodeEdit) (calls : ℕ) (rows : List ProcessEntry) (locks : TableParts) (pending : List OpenCall) (files : List FileRow) → calls ≡ calls_after p.calls e.draft.numbered → Leaves (host (node_state p)) p.processes p.locks e.table rows locks → pending ≡ pending_after p.pending e.calls → file_state files ≡ files_told (files_after (file_state p.files) p.files (edit_in e.draft.command)) e.freed → node_state (changed p calls rows locks pending files) ≡ made p e
 unfolding node_state
-node-planned p e calls rows locks pending files counted made left known =
-    let table = made (λ n k. no_processes) in
+node-planned p e calls rows locks pending files counted leaves left known =
+    let table = leaves (λ n k. no_processes) in
     λ i. record {
       shape = p.shape;
       node = p.node;
@@ -168,7 +169,7 @@ calls-edited p (Left pid number) fit h =
     All-filter (λ c. not (c.number == number)) (IsOwnCall p.shape.files p.node p.incarnation) (filter theirs p.pending) (All-filter theirs (IsOwnCall p.shape.files p.node p.incarnation) p.pending h.calls_in)
 
 -- the node is sound after a change that fits
-pub node-edited : (p : NodeParts) (e : NodeEdit) (calls : ℕ) (rows : List ProcessEntry) (locks : TableParts) (pending : List OpenCall) (files : List FileRow) → pending ≡ pending_after p.pending e.calls → length files ≡ length p.files → node_state (changed p calls rows locks pending files) ≡ planned p e → Fits p e → IsNode p → IsNode (changed p calls rows locks pending files)
+pub node-edited : (p : NodeParts) (e : Box NodeEdit Global) (calls : ℕ) (rows : List ProcessEntry) (locks : TableParts) (pending : List OpenCall) (files : List FileRow) → pending ≡ pending_after p.pending e.value.calls → length files ≡ length p.files → node_state (changed p calls rows locks pending files) ≡ planned p e → Fits p e → IsNode p → IsNode (changed p calls rows locks pending files)
 unfolding node_state
 node-edited p e calls rows locks pending files left count is fit h = record {
   host = h.host;
@@ -176,8 +177,8 @@ node-edited p e calls rows locks pending files left count is fit h = record {
   files_in = count ∙ h.files_in;
   opened_in = λ pid fd o there.
       let now = ap (λ (s : NodeState). s.table.on s.node s.incarnation) (sym is) ∙ around-own (changed p calls rows locks pending files) 0 in
-      opened-after p e.table fit.0.1 h pid fd o (ap (λ (ps : Processes). ps.opened pid fd) now ∙ there);
-  calls_in = subst (All (IsOwnCall p.shape.files p.node p.incarnation)) (sym left) (calls-edited p e.calls fit.0.2 h);
+      opened-after p e.value.table fit.0.1 h pid fd o (ap (λ (ps : Processes). ps.opened pid fd) now ∙ there);
+  calls_in = subst (All (IsOwnCall p.shape.files p.node p.incarnation)) (sym left) (calls-edited p e.value.calls fit.0.2 h);
 }
 
 -- no lock of a node outlives its descriptors

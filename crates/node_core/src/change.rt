@@ -4,10 +4,10 @@ ghost use Rattle.std.specs.Prelude.{◌≡◌};
 use crate::node_edit::NodeEdit;
 use messages::outcome::Outcome;
 
-/// A planned step of a node: what it changes, and its outcome.
+/// A planned step of a node: what it changes, in a box, because many calls hand it up by value, and its outcome.
 #[derive(Drop)]
 pub struct NodeChange {
-    pub edit: NodeEdit,
+    pub edit: Box<NodeEdit>,
     pub outcome: Outcome,
 }
 

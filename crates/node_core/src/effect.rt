@@ -1,7 +1,8 @@
 //! The effect of a step: its change, a reply, and messages.
 //!
 //! Each function here that can fail errs with `AllocError`, where a request for memory was refused.
-ghost use Rattle.std.specs.Prelude.{◌≡◌, Some, None, [], ◌∷◌, ◌++◌, IfOk};
+ghost use Rattle.std.specs.Prelude.{◌≡◌, Some, None, [], ◌∷◌, IfOk};
+ghost use Rattle.node_core.specs.code.Plans.{TellsOf};
 
 use crate::change::NodeChange;
 use crate::node_edit::NodeEdit;
@@ -12,17 +13,18 @@ use model::call::CallId;
 use model::reply::Reply;
 use std::alloc::{AllocError, Global};
 
-/// The effect of a step: what it changes, at most one reply, and messages in their order.
+/// The effect of a step: what it changes, in a box, because many calls hand it up by value; at most one reply; and
+/// messages in their order.
 #[derive(Drop)]
 pub struct Effect {
-    pub edit: NodeEdit,
+    pub edit: Box<NodeEdit>,
     pub reply: Option<(CallId, Reply)>,
     pub sends: Items<Message>,
 }
 
 impl Effect {
     /// The effect without a reply and without messages.
-    pub fn quiet(alloc: Global, edit: NodeEdit) -> Effect
+    pub fn quiet(alloc: Global, edit: Box<NodeEdit>) -> Effect
         ensures { result ≡ record { edit = edit; reply = None; sends = [] } }
     {
         Effect {
@@ -33,7 +35,11 @@ impl Effect {
     }
 
     /// The effect of sending one message, without a reply.
-    pub fn sent(alloc: Global, edit: NodeEdit, message: Message) -> Result<Effect, AllocError>
+    pub fn sent(
+        alloc: Global,
+        edit: Box<NodeEdit>,
+        message: Message,
+    ) -> Result<Effect, AllocError>
         ensures { IfOk result (λ effect. effect ≡ record { edit = edit; reply = None; sends = message ∷ [] }) }
     {
         Ok(Effect {
@@ -44,7 +50,7 @@ impl Effect {
     }
 
     /// The effect of a reply to a call, without messages.
-    pub fn answered(alloc: Global, edit: NodeEdit, call: CallId, reply: Reply) -> Effect
+    pub fn answered(alloc: Global, edit: Box<NodeEdit>, call: CallId, reply: Reply) -> Effect
         ensures { result ≡ record { edit = edit; reply = Some (call, reply); sends = [] } }
     {
         Effect {
@@ -70,7 +76,7 @@ impl Effect {
     /// Puts `freed` behind the other messages, and adds the file to those for which no Freed is owed
     /// any longer.
     pub fn with_freed_last(self, file: u16, freed: Message) -> Result<Effect, AllocError>
-        ensures { IfOk result (λ effect. effect ≡ record { edit = record self.edit { freed = self.edit.freed ++ file ∷ [] }; reply = self.reply; sends = self.sends ++ freed ∷ [] }) }
+        ensures { IfOk result (λ effect. TellsOf file freed self effect) }
     {
         let Effect {
             mut edit,

@@ -246,7 +246,7 @@ impl Node {
 
     // Makes a planned change of each part of the node.
     #[tactic(auto, unfolding(crate::specs::rule::Parts::node_state))]
-    fn apply_edit(&mut self, edit: NodeEdit)
+    fn apply_edit(&mut self, edit: Box<NodeEdit>)
         requires { Fits self.old edit }
         ensures { node_state self.new ≡ planned self.old edit }
     {
@@ -255,7 +255,7 @@ impl Node {
             table,
             calls,
             freed,
-        } = edit;
+        } = Box::into_inner(edit);
         let NodeDraft { numbered, command } = draft;
         let host = self.host();
         self.calls = calls_after(self.calls, numbered);

@@ -1,5 +1,5 @@
 //! What a step of a node changes, as plain data.
-ghost use Rattle.std.specs.Prelude.{◌≡◌, ℕ, true, false, Some, None, []};
+ghost use Rattle.std.specs.Prelude.{◌≡◌, ℕ, true, false, Some, None, [], IfOk};
 ghost use Rattle.fcntl_table.specs.rule.Hosts.{shown};
 ghost use Rattle.model.specs.rule.Descriptors.{Processes as ProcessTable};
 ghost use Rattle.node_core.specs.code.Plans.{table_after, RowsFit};
@@ -14,7 +14,7 @@ use fcntl_table::shut::{close_at, exit_at};
 use lock_table::lock_table::{LockEdit, LockTable};
 use messages::items::Items;
 use model::host::Host;
-use std::alloc::Global;
+use std::alloc::{AllocError, Global};
 
 /// The changes of a step that come before a call is tried: whether the call takes the next number,
 /// and what a command changes at its file. (In a box, because a change is handed on often.)
@@ -81,21 +81,28 @@ pub struct NodeEdit {
 }
 
 impl NodeEdit {
-    /// The draft and no other change. Takes no memory.
-    pub fn of(alloc: Global, draft: NodeDraft) -> NodeEdit
-        ensures { result ≡ record { draft = draft; table = Nothing; calls = Same; freed = [] } }
+    /// The draft and no other change.
+    ///
+    /// # Errors
+    /// `AllocError` where a request for memory was refused.
+    pub fn of(alloc: Global, draft: NodeDraft) -> Result<Box<NodeEdit>, AllocError>
+        ensures { IfOk result (λ edit. edit.value ≡ record { draft = draft; table = Nothing; calls = Same; freed = [] }) }
     {
-        NodeEdit {
+        let edit = NodeEdit {
             draft,
             table: NodeTableEdit::Nothing,
             calls: CallsEdit::Same,
             freed: Items::new(alloc),
-        }
+        };
+        Box::new(alloc, edit)
     }
 
-    /// No change. Takes no memory.
-    pub fn none(alloc: Global) -> NodeEdit
-        ensures { result ≡ record { draft = record { numbered = false; command = None }; table = Nothing; calls = Same; freed = [] } }
+    /// No change.
+    ///
+    /// # Errors
+    /// `AllocError` where a request for memory was refused.
+    pub fn none(alloc: Global) -> Result<Box<NodeEdit>, AllocError>
+        ensures { IfOk result (λ edit. edit.value ≡ record { draft = record { numbered = false; command = None }; table = Nothing; calls = Same; freed = [] }) }
     {
         NodeEdit::of(alloc, NodeDraft::none())
     }

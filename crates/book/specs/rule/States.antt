@@ -34,19 +34,19 @@ StepsTo _ event _ o = ⊥
 
 -- the change was planned from the state
 abbrev pub Fits : State → StateEdit → Type 0
-Fits (OfNode n s) (OnNode e) = NodeFits s.value e.value
+Fits (OfNode n s) (OnNode e) = NodeFits s.value e
 Fits (OfServer f s) (OnServer e) = ServerFits s.value e
 Fits _ _ = ⊥
 
 -- the change makes the second state of the first
 abbrev pub Becomes : State → StateEdit → State → Type 0
-Becomes (OfNode n s) (OnNode e) (OfNode m t) = (m ≡ n) × (node_state t.value ≡ reached s.value e.value)
+Becomes (OfNode n s) (OnNode e) (OfNode m t) = (m ≡ n) × (node_state t.value ≡ reached s.value e)
 Becomes (OfServer f s) (OnServer e) (OfServer g t) = (g ≡ f) × (server_state t.value ≡ planned s.value e)
 Becomes _ _ _ = ⊥
 
 -- the event leads from the state to the one that the change makes, with this outcome
 abbrev pub Plans : State → Event → StateEdit → Outcome → Type 0
-Plans (OfNode n s) event (OnNode e) o = node_step n (node_state s.value) event ≡ Ok (reached s.value e.value, o)
+Plans (OfNode n s) event (OnNode e) o = node_step n (node_state s.value) event ≡ Ok (reached s.value e, o)
 Plans (OfServer f s) event (OnServer e) o = server_step f (server_state s.value) event ≡ Ok (planned s.value e, o)
 Plans _ event _ o = ⊥
 

@@ -80,7 +80,7 @@ pub record IsStart (p : WorldParts) (file : ℕ) (begun : ServerParts) (sends : 
 
 -- the change is planned for the event, and r is what it makes
 abbrev pub Makes : WorldParts → Event → WorldChange → Result (WorldState × Entry) Refused → Type 0
-Makes p event (OfNode n incarnation change) r = IsNodeChange p event n incarnation change.value r
+Makes p event (OfNode n incarnation change) r = IsNodeChange p event n incarnation change r
 Makes p event (OfServer file change) r = IsServerChange p event file change r
 Makes p event (Declared n) r = IsDeclaration p n r
 Makes p event (Restarted n begun) r = IsRestart p n begun.value × (r ≡ restart_rule (world_state p) n)

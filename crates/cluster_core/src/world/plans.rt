@@ -124,11 +124,10 @@ impl World {
     {
         let incarnation = self.named_incarnation(node, input);
         let change = self.node_plan(alloc, node, &NodeEvent::Input(*input))?;
-        let boxed = Box::new(alloc, change)?;
         Ok(WorldChange::OfNode {
             node,
             incarnation,
-            change: boxed,
+            change,
         })
     }
 
@@ -163,11 +162,10 @@ impl World {
         ensures refused { (e : Refused) → delivered (world_state self.now) message.now (ANode node) ≡ Err e → result ≡ Err e }
     {
         let change = self.node_delivery(alloc, node, message)?;
-        let boxed = Box::new(alloc, change)?;
         Ok(WorldChange::OfNode {
             node,
             incarnation: 0,
-            change: boxed,
+            change,
         })
     }
 

@@ -9,12 +9,11 @@ use token_server::server::Server;
 /// The change that an event makes in a world: the step of the one actor that takes it.
 #[derive(Drop)]
 pub(crate) enum WorldChange {
-    /// A step of the node. The entry names this incarnation, 0 for none. (In a box, because a change is handed on for
-    /// each event.)
+    /// A step of the node. The entry names this incarnation, 0 for none.
     OfNode {
         node: u8,
         incarnation: u16,
-        change: Box<NodeChange>,
+        change: NodeChange,
     },
     /// A step of the token server of the file.
     OfServer {
@@ -25,7 +24,8 @@ pub(crate) enum WorldChange {
     Declared {
         node: u8,
     },
-    /// The restart of the node, with the state in which it begins. (In a box, as above.)
+    /// The restart of the node, with the state in which it begins. (In a box, because a
+    /// change is handed on for each event.)
     Restarted {
         node: u8,
         begun: Box<Node>,

@@ -1,5 +1,6 @@
 -- What a planned step changes of a node.
 use Rattle.std.specs.Prelude.{◌≡◌, ℕ, ◌+◌, ◌-◌, ◌<◌, ◌==◌, Bool, true, false, not, if◌then◌else◌, List, [], ◌∷◌, ◌++◌, All, filter, length, Option, Some, None, Box}
+use Rattle.std.specs.Global.{Global}
 use Rattle.std.specs.List.{slice_get}
 use Rattle.std.specs.Vec.{vec_capacity}
 use Rattle.model.specs.declared.host.Host.{Host}
@@ -11,6 +12,7 @@ use Rattle.model.specs.rule.Table.{Table, descriptor, with_processes, closed_if,
 use Rattle.lock_table.specs.code.Rows.{TableParts, HasRoom as HasRowRoom, HasRuns}
 use Rattle.token_set.specs.code.Edits.{edited as token_edited}
 use Rattle.messages.specs.rule.Messages.{greatest_number}
+use Rattle.messages.specs.declared.message.Message.{Message}
 use Rattle.descriptors.specs.declared.process_entry.ProcessEntry.{ProcessEntry}
 use Rattle.descriptors.specs.code.Edits.{edited, Fits as ProcessFits}
 use Rattle.node_core.specs.declared.effect.Effect.{Effect as EffectFields}
@@ -97,9 +99,9 @@ opened_if false calls c = calls
 abbrev pub trying : NodeParts → NodeDraft → OpenCall → NodeState
 trying p d c = record (drafted p d) { pending = opened_if d.numbered (node_state p).pending c }
 
--- the state that a planned step leads to
-abbrev pub planned : NodeParts → NodeEdit → NodeState
-planned p e =
+-- the state after these changes are made
+abbrev pub made : NodeParts → NodeEdit → NodeState
+made p e =
     let s = drafted p e.draft in
     record s {
       table = table_after (host s) s.table e.table;
@@ -107,9 +109,20 @@ planned p e =
       files = files_told s.files e.freed;
     }
 
+-- the state that a planned step leads to
+abbrev pub planned : NodeParts → Box NodeEdit Global → NodeState
+planned p e = made p e.value
+
 -- the effect that a planned step has
 abbrev pub effect_of : NodeParts → EffectFields → Effect
 effect_of p e = record { state = planned p e.edit; reply = e.reply; sends = e.sends }
+
+-- the second effect sends that message for one more file, for which a Freed is owed no longer
+abbrev pub TellsOf : ℕ → Message → EffectFields → EffectFields → Type 0
+TellsOf file freed before after =
+    (after.edit.value ≡ record before.edit.value { freed = before.edit.value.freed ++ file ∷ [] })
+    × (after.reply ≡ before.reply)
+    × (after.sends ≡ before.sends ++ freed ∷ [])
 
 -- a call number is left, if the step takes one
 abbrev pub NumberFits : ℕ → Bool → Type 0
@@ -155,14 +168,18 @@ IsPut p _ = Unit {0}
 abbrev pub CallsFit : NodeParts → CallsEdit → Type 0
 CallsFit p e = HasRoom (length p.pending) e × IsPut p e
 
--- each part of the change can be made on the node that it was planned for
-abbrev pub PartsFit : NodeParts → NodeEdit → Type 0
-PartsFit p e =
+-- each of these changes can be made on the node that they were planned for
+abbrev pub EditFits : NodeParts → NodeEdit → Type 0
+EditFits p e =
     DraftFits p e.draft
     × TableFits p e.table
     × CallsFit p e.calls
     × All (IsNumber (node_state p).shape.files) e.freed
 
+-- each part of the change can be made on the node that it was planned for
+abbrev pub PartsFit : NodeParts → Box NodeEdit Global → Type 0
+PartsFit p e = EditFits p e.value
+
 -- the change can be made on the node, and leaves no lock without its descriptors
-abbrev pub Fits : NodeParts → NodeEdit → Type 0
+abbrev pub Fits : NodeParts → Box NodeEdit Global → Type 0
 Fits p e = PartsFit p e × IsAnchored (planned p e)

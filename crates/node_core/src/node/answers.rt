@@ -56,30 +56,33 @@ impl Node {
         table: NodeTableEdit,
         number: u32,
         reply: Reply,
-    ) -> Effect
+    ) -> Result<Effect, AllocError>
         requires number { 1 ≤ number }
         requires draft { DraftFits self.now draft }
         requires table { TableFits self.now table }
-        ensures value { settled (drafted self.now draft) number (table_after (host (node_state self.now)) (node_state self.now).table table, reply) ≡ effect_of self.now result }
-        ensures fits { PartsFit self.now result.edit }
-        ensures first { result.edit.freed ≡ [] }
+        ensures value { IfOk result (λ effect. settled (drafted self.now draft) number (table_after (host (node_state self.now)) (node_state self.now).table table, reply) ≡ effect_of self.now effect) }
+        ensures fits { IfOk result (λ effect. PartsFit self.now effect.edit) }
+        ensures first { IfOk result (λ effect. effect.edit.value.freed ≡ []) }
     {
-        let edit = NodeEdit {
-            table,
-            calls: CallsEdit::Gone(number),
-            ..NodeEdit::of(alloc, draft)
-        };
-        Effect::answered(alloc, edit, self.id(number), reply)
+        let mut edit = NodeEdit::of(alloc, draft)?;
+        edit.table = table;
+        edit.calls = CallsEdit::Gone(number);
+        Ok(Effect::answered(alloc, edit, self.id(number), reply))
     }
 
     // Answers a call that is open already, if there is a reply; else it stays open.
-    pub(super) fn answer_if(&self, alloc: Global, number: u32, reply: Option<Reply>) -> Effect
+    pub(super) fn answer_if(
+        &self,
+        alloc: Global,
+        number: u32,
+        reply: Option<Reply>,
+    ) -> Result<Effect, AllocError>
         requires { 1 ≤ number }
-        ensures value { answered_if (node_state self.now) number reply ≡ effect_of self.now result }
-        ensures fits { PartsFit self.now result.edit }
+        ensures value { IfOk result (λ effect. answered_if (node_state self.now) number reply ≡ effect_of self.now effect) }
+        ensures fits { IfOk result (λ effect. PartsFit self.now effect.edit) }
     {
         match reply {
-            None => Effect::quiet(alloc, NodeEdit::none(alloc)),
+            None => Ok(Effect::quiet(alloc, NodeEdit::none(alloc)?)),
             Some(reply) => self.answer(
                 alloc,
                 NodeDraft::none(),
@@ -130,10 +133,10 @@ impl Node {
     pub(super) fn tell_freed(&self, file: u16, effect: Effect) -> Result<Effect, AllocError>
         requires file { IsNumber (node_state self.now).shape.files file }
         requires fits { PartsFit self.now effect.edit }
-        requires rises { All (λ f. f < file) effect.edit.freed }
+        requires rises { All (λ f. f < file) effect.edit.value.freed }
         ensures value { IfOk result (λ told. with_freed file (effect_of self.now effect) ≡ effect_of self.now told) }
         ensures fits { IfOk result (λ told. PartsFit self.now told.edit) }
-        ensures rises { IfOk result (λ told. All (λ f. f < file + 1) told.edit.freed) }
+        ensures rises { IfOk result (λ told. All (λ f. f < file + 1) told.edit.value.freed) }
     {
         if !self.owes_freed(&effect.edit.draft, file) {
             return Ok(effect);
@@ -160,7 +163,7 @@ impl Node {
         ensures fits { IfOk result (λ effect. PartsFit self.now effect.edit) }
     {
         let (table, reply) = self.plan_lock(alloc, target, mode)?;
-        let effect = self.answer(alloc, draft, table, number, reply);
+        let effect = self.answer(alloc, draft, table, number, reply)?;
         if !may_free(mode, &reply) {
             return Ok(effect);
         }
@@ -187,13 +190,13 @@ impl Node {
                 call.target(),
                 Some(call.mode),
             ),
-            LockCommand::Query => Ok(self.answer(
+            LockCommand::Query => self.answer(
                 alloc,
                 draft,
                 NodeTableEdit::Nothing,
                 call.number,
                 Reply::Free,
-            )),
+            ),
         }
     }
 }

@@ -119,12 +119,17 @@ impl Node {
     }
 
     // Answers a new call in its own step, with that change of the table.
-    pub(super) fn answer_call(&self, alloc: Global, table: NodeTableEdit, reply: Reply) -> Effect
+    pub(super) fn answer_call(
+        &self,
+        alloc: Global,
+        table: NodeTableEdit,
+        reply: Reply,
+    ) -> Result<Effect, AllocError>
         requires left { (node_state self.now).calls < greatest_number }
         requires table { TableFits self.now table }
-        ensures value { settled (numbered (node_state self.now)) ((node_state self.now).calls + 1) (table_after (host (node_state self.now)) (node_state self.now).table table, reply) ≡ effect_of self.now result }
-        ensures fits { PartsFit self.now result.edit }
-        ensures first { result.edit.freed ≡ [] }
+        ensures value { IfOk result (λ effect. settled (numbered (node_state self.now)) ((node_state self.now).calls + 1) (table_after (host (node_state self.now)) (node_state self.now).table table, reply) ≡ effect_of self.now effect) }
+        ensures fits { IfOk result (λ effect. PartsFit self.now effect.edit) }
+        ensures first { IfOk result (λ effect. effect.edit.value.freed ≡ []) }
     {
         self.answer(
             alloc,
@@ -144,7 +149,7 @@ impl Node {
         ensures fits { IfOk result (λ effect. PartsFit self.now effect.edit) }
     {
         let (table, reply) = self.plan_process(pid, call)?;
-        Ok(self.answer_call(alloc, table, reply))
+        self.answer_call(alloc, table, reply)
     }
 
     // A call about a lock that passes its first tests is open, and is tried.
@@ -176,7 +181,7 @@ impl Node {
                 };
                 self.try_call(alloc, NodeDraft::of_call(), &call)
             }
-            Err(refusal) => Ok(self.answer_call(alloc, NodeTableEdit::Nothing, refusal)),
+            Err(refusal) => self.answer_call(alloc, NodeTableEdit::Nothing, refusal),
         }
     }
 
@@ -201,7 +206,7 @@ impl Node {
                 target,
                 None,
             ),
-            Err(refusal) => Ok(self.answer_call(alloc, NodeTableEdit::Nothing, refusal)),
+            Err(refusal) => self.answer_call(alloc, NodeTableEdit::Nothing, refusal),
         }
     }
 

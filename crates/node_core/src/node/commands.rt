@@ -59,7 +59,7 @@ impl Node {
         ensures fits { IfOk result (λ effect. PartsFit self.now effect.edit) }
     {
         let answer = known.answer;
-        let edit = NodeEdit::of(alloc, self.draft_of(alloc, known)?);
+        let edit = NodeEdit::of(alloc, self.draft_of(alloc, known)?)?;
         match answer {
             None => Ok(Effect::quiet(alloc, edit)),
             Some(answer) => Effect::sent(alloc, edit, answer.message()),
@@ -85,7 +85,8 @@ impl Node {
         let number = command.number.get();
         let known = self.enter(command.file.get(), number);
         if number != known.last {
-            return Ok(Effect::quiet(alloc, NodeEdit::of(alloc, self.draft_of(alloc, known)?)));
+            let edit = NodeEdit::of(alloc, self.draft_of(alloc, known)?)?;
+            return Ok(Effect::quiet(alloc, edit));
         }
         self.remembered(alloc, known)
     }
@@ -176,7 +177,7 @@ impl Node {
         let (gives, draft) = self.give_up(alloc, command, wanted)?;
         Effect::sent(
             alloc,
-            NodeEdit::of(alloc, draft),
+            NodeEdit::of(alloc, draft)?,
             command.answer(self.host(), gives).message(),
         )
     }
@@ -213,7 +214,7 @@ impl Node {
     {
         let known = self.enter(file.get(), number.get());
         let is_begun = number.get() != known.last;
-        let edit = NodeEdit::of(alloc, self.draft_of(alloc, known)?);
+        let edit = NodeEdit::of(alloc, self.draft_of(alloc, known)?)?;
         if is_begun {
             return Ok(Effect::quiet(alloc, edit));
         }
@@ -222,13 +223,18 @@ impl Node {
 
     // Takes a denial: the call, if it is still open, is answered with the lock in its way, unless
     // it is a wait.
-    fn deny(&self, alloc: Global, call: Option<OpenCall>, lock: LockInfo) -> Effect
+    fn deny(
+        &self,
+        alloc: Global,
+        call: Option<OpenCall>,
+        lock: LockInfo,
+    ) -> Result<Effect, AllocError>
         requires { IfSome call (IsCallOf (node_state self.now)) }
-        ensures value { denied (node_state self.now) lock call ≡ effect_of self.now result }
-        ensures fits { PartsFit self.now result.edit }
+        ensures value { IfOk result (λ effect. denied (node_state self.now) lock call ≡ effect_of self.now effect) }
+        ensures fits { IfOk result (λ effect. PartsFit self.now effect.edit) }
     {
         match call {
-            None => Effect::quiet(alloc, NodeEdit::none(alloc)),
+            None => Ok(Effect::quiet(alloc, NodeEdit::none(alloc)?)),
             Some(call) => self.answer_if(alloc, call.number, refusal_of(call.lock_command, lock)),
         }
     }
@@ -285,9 +291,9 @@ impl Node {
             Message::Hello { file, number, .. } => self.tell(alloc, *file, *number),
             Message::Deny { call, lock, .. } => {
                 let waiting = self.open_call(call.number);
-                Ok(self.deny(alloc, waiting, *lock))
+                self.deny(alloc, waiting, *lock)
             }
-            _ => Ok(Effect::quiet(alloc, NodeEdit::none(alloc))),
+            _ => Ok(Effect::quiet(alloc, NodeEdit::none(alloc)?)),
         }
     }
 
@@ -306,7 +312,7 @@ impl Node {
             return Err(StepError::Stranger);
         }
         if !self.is_for_now(message) {
-            return Ok(Effect::quiet(alloc, NodeEdit::none(alloc)).change(None));
+            return Ok(Effect::quiet(alloc, NodeEdit::none(alloc)?).change(None));
         }
         let effect = self.deliver(alloc, message)?;
         Ok(effect.change(None))

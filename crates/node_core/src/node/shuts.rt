@@ -20,20 +20,24 @@ use std::alloc::{AllocError, Global};
 
 impl Node {
     // Answers an exit, with that change of the table; no call of the process stays open.
-    fn answer_exit(&self, alloc: Global, pid: u16, table: NodeTableEdit, reply: Reply) -> Effect
+    fn answer_exit(
+        &self,
+        alloc: Global,
+        pid: u16,
+        table: NodeTableEdit,
+        reply: Reply,
+    ) -> Result<Effect, AllocError>
         requires left { (node_state self.now).calls < greatest_number }
         requires table { TableFits self.now table }
-        ensures value { settled (without_call_of (numbered (node_state self.now)) pid) ((node_state self.now).calls + 1) (table_after (host (node_state self.now)) (node_state self.now).table table, reply) ≡ effect_of self.now result }
-        ensures fits { PartsFit self.now result.edit }
-        ensures first { result.edit.freed ≡ [] }
+        ensures value { IfOk result (λ effect. settled (without_call_of (numbered (node_state self.now)) pid) ((node_state self.now).calls + 1) (table_after (host (node_state self.now)) (node_state self.now).table table, reply) ≡ effect_of self.now effect) }
+        ensures fits { IfOk result (λ effect. PartsFit self.now effect.edit) }
+        ensures first { IfOk result (λ effect. effect.edit.value.freed ≡ []) }
     {
         let number = self.next_number();
-        let edit = NodeEdit {
-            table,
-            calls: CallsEdit::Left { pid, number },
-            ..NodeEdit::of(alloc, NodeDraft::of_call())
-        };
-        Effect::answered(alloc, edit, self.id(number), reply)
+        let mut edit = NodeEdit::of(alloc, NodeDraft::of_call())?;
+        edit.table = table;
+        edit.calls = CallsEdit::Left { pid, number };
+        Ok(Effect::answered(alloc, edit, self.id(number), reply))
     }
 
     // Closes the descriptor and answers the call. If a Freed is owed for the descriptor's file, it
@@ -50,10 +54,10 @@ impl Node {
                     alloc,
                     NodeTableEdit::Closes { pid, fd },
                     Reply::Done,
-                );
+                )?;
                 self.tell_freed(opened.file, effect)
             }
-            Err(error) => Ok(self.answer_call(alloc, NodeTableEdit::Nothing, error.reply())),
+            Err(error) => self.answer_call(alloc, NodeTableEdit::Nothing, error.reply()),
         }
     }
 
@@ -61,10 +65,10 @@ impl Node {
     fn tell_if_open(&self, pid: u16, file: u16, effect: Effect) -> Result<Effect, AllocError>
         requires file { IsNumber (node_state self.now).shape.files file }
         requires fits { PartsFit self.now effect.edit }
-        requires rises { All (λ f. f < file) effect.edit.freed }
+        requires rises { All (λ f. f < file) effect.edit.value.freed }
         ensures value { IfOk result (λ told. (if has_open (processes self.now.processes) pid file then with_freed file (effect_of self.now effect) else effect_of self.now effect) ≡ effect_of self.now told) }
         ensures fits { IfOk result (λ told. PartsFit self.now told.edit) }
-        ensures rises { IfOk result (λ told. All (λ f. f < file + 1) told.edit.freed) }
+        ensures rises { IfOk result (λ told. All (λ f. f < file + 1) told.edit.value.freed) }
     {
         if !self.processes.has_open(pid, file) {
             return Ok(effect);
@@ -76,7 +80,7 @@ impl Node {
     // file numbers.
     fn tell_open(&self, pid: u16, effect: Effect) -> Result<Effect, AllocError>
         requires fits { PartsFit self.now effect.edit }
-        requires first { effect.edit.freed ≡ [] }
+        requires first { effect.edit.value.freed ≡ [] }
         ensures value { IfOk result (λ told. with_freed_of (has_open (processes self.now.processes) pid) (node_state self.now).shape.files (effect_of self.now effect) ≡ effect_of self.now told) }
         ensures fits { IfOk result (λ told. PartsFit self.now told.edit) }
     {
@@ -99,9 +103,9 @@ impl Node {
         ensures fits { IfOk result (λ effect. PartsFit self.now effect.edit) }
     {
         if !self.processes.is_running(pid) {
-            return Ok(self.answer_exit(alloc, pid, NodeTableEdit::Nothing, Reply::NoProcess));
+            return self.answer_exit(alloc, pid, NodeTableEdit::Nothing, Reply::NoProcess);
         }
-        let effect = self.answer_exit(alloc, pid, NodeTableEdit::Exits { pid }, Reply::Done);
+        let effect = self.answer_exit(alloc, pid, NodeTableEdit::Exits { pid }, Reply::Done)?;
         self.tell_open(pid, effect)
     }
 }

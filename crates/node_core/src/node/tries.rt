@@ -104,10 +104,8 @@ impl Node {
             wanted: self.wanted(&draft, call)?,
         };
         let calls = self.keep_open(&draft, call)?;
-        let edit = NodeEdit {
-            calls,
-            ..NodeEdit::of(alloc, draft)
-        };
+        let mut edit = NodeEdit::of(alloc, draft)?;
+        edit.calls = calls;
         Effect::sent(alloc, edit, request)
     }
 
@@ -126,13 +124,11 @@ impl Node {
         ensures fits { IfOk result (λ effect. PartsFit self.now effect.edit) }
     {
         if let Some(reply) = refusal {
-            return Ok(self.answer(alloc, draft, NodeTableEdit::Nothing, call.number, reply));
+            return self.answer(alloc, draft, NodeTableEdit::Nothing, call.number, reply);
         }
         let calls = self.keep_open(&draft, call)?;
-        let edit = NodeEdit {
-            calls,
-            ..NodeEdit::of(alloc, draft)
-        };
+        let mut edit = NodeEdit::of(alloc, draft)?;
+        edit.calls = calls;
         Ok(Effect::quiet(alloc, edit))
     }
 
@@ -173,7 +169,7 @@ impl Node {
         ensures fits { IfOk result (λ effect. PartsFit self.now effect.edit) }
     {
         match call {
-            None => Ok(Effect::quiet(alloc, NodeEdit::of(alloc, draft))),
+            None => Ok(Effect::quiet(alloc, NodeEdit::of(alloc, draft)?)),
             Some(call) => self.try_call(alloc, draft, &call),
         }
     }

@@ -4,10 +4,7 @@ use Rattle.messages.specs.rule.Refusals.{refused_by}
 use Rattle.messages.specs.declared.refusal.Refused.{Refused}
 use Rattle.messages.specs.declared.event.Event.{Event}
 use Rattle.messages.specs.declared.event.Event.TheVariants.{AtNode}
-use Rattle.node_core.specs.declared.change.NodeChange.{NodeChange}
 use Rattle.node_core.specs.declared.event.NodeEvent.TheVariants.{Input}
-use Rattle.cluster_core.specs.code.Changes.{IsNodeChange}
-use Rattle.cluster_core.specs.rule.Next.{taken}
 use Rattle.cluster_core.specs.rule.Parts.{world_state}
 use Rattle.cluster_core.proofs.steps.Actors.{own_node_input}
 use Rattle.cluster_core.proofs.steps.CertainRefusals.{err_is, node_refused}
@@ -16,9 +13,8 @@ use Rattle.cluster_core.proofs.world.World.plan_node.Goals as goal
 pub returns-clause-ok : goal.returns-clause-ok
 returns-clause-ok c =
     let event : Event = AtNode c.args.node c.args.input.now in
-    let Made : NodeChange → Type 0 = λ x. IsNodeChange c.args.self.now event c.args.node c.named_incarnation-incarnation.result x (taken (world_state c.args.self.now) event) in
     let found = c.in_ok-change.ensures.ok in
-    subst Made (sym c.in_ok-boxed.ensures.ok) (record {
+    record {
       step = Input c.args.input.now;
       number = c.requires.node;
       alive = c.requires.alive;
@@ -30,7 +26,7 @@ returns-clause-ok c =
       incarnation_is = c.named_incarnation-incarnation.ensures.value;
       incarnated = c.named_incarnation-incarnation.ensures.incarnated;
       gives = refl;
-    })
+    }
 
 pub returns-in_err-change-clause-refused : goal.returns-in_err-change-clause-refused
 returns-in_err-change-clause-refused c = λ e refused.

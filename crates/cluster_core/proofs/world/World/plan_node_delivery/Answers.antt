@@ -4,10 +4,7 @@ use Rattle.messages.specs.rule.Refusals.{refused_by}
 use Rattle.messages.specs.declared.refusal.Refused.{Refused}
 use Rattle.messages.specs.declared.event.Event.TheVariants.{Deliver}
 use Rattle.messages.specs.declared.actor.Actor.TheVariants.{Node as ANode}
-use Rattle.node_core.specs.declared.change.NodeChange.{NodeChange}
 use Rattle.node_core.specs.declared.event.NodeEvent.TheVariants as own
-use Rattle.cluster_core.specs.code.Changes.{IsNodeChange}
-use Rattle.cluster_core.specs.rule.Next.{delivered}
 use Rattle.cluster_core.specs.rule.Parts.{world_state}
 use Rattle.cluster_core.proofs.steps.Actors.{own_node_delivery}
 use Rattle.cluster_core.proofs.steps.CertainRefusals.{err_is, node_refused}
@@ -16,9 +13,8 @@ use Rattle.cluster_core.proofs.world.World.plan_node_delivery.Goals as goal
 pub returns-clause-ok : goal.returns-clause-ok
 returns-clause-ok c =
     let m = c.args.message.now in
-    let Made : NodeChange → Type 0 = λ x. IsNodeChange c.args.self.now (Deliver m) c.args.node 0 x (delivered (world_state c.args.self.now) m (ANode c.args.node)) in
     let found = c.in_ok-change.ensures.ok in
-    subst Made (sym c.in_ok-boxed.ensures.ok) (record {
+    record {
       step = own.Deliver m;
       number = c.requires.node;
       alive = c.requires.alive;
@@ -30,7 +26,7 @@ returns-clause-ok c =
       incarnation_is = refl;
       incarnated = refl;
       gives = refl;
-    })
+    }
 
 pub returns-in_err-change-clause-refused : goal.returns-in_err-change-clause-refused
 returns-in_err-change-clause-refused c = λ e refused.

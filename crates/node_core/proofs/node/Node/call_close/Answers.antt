@@ -19,13 +19,14 @@ returns-in-Ok-clause-value c =
     let o = c.in-Ok.opened in
     let is = subst (λ (q : NodeParts). resolved (processes q.processes) c.args.pid c.args.fd ≡ Ok o) c.self.view_is (sym c.in-Ok.ensures.value) in
     let within : IsNumber (node_state p).shape.files o.file = rw (← c.self.view_is) (opened-within-shape _ c.args.pid c.args.fd o c.self.invariant (sym c.in-Ok.ensures.value)) in
-    let all = close-found p c.args.pid c.args.fd o is within ∙ ap (with_freed o.file) c.answer_call-effect.ensures.value in
+    let all = close-found p c.args.pid c.args.fd o is within ∙ ap (with_freed o.file) c.in_ok-effect.ensures.value in
     subst (λ (x : Effect). IfOk c.tell_freed.result (λ e. x ≡ effect_of p e)) (sym all) c.tell_freed.ensures.value
 
 pub returns-in-Err-clause-value : goal.returns-in-Err-clause-value
 returns-in-Err-clause-value c =
     let p : NodeParts = c.args.self.now in
     let is = subst (λ (q : NodeParts). resolved (processes q.processes) c.args.pid c.args.fd ≡ Err c.in-Err.error) c.self.view_is (sym c.in-Err.ensures.value) in
-    close-refused p c.args.pid c.args.fd c.in-Err.error is
-    ∙ ap (λ (r : Reply). settled (numbered (node_state p)) ((node_state p).calls + 1) ((node_state p).table, r)) (sym c.reply.ensures)
-    ∙ c.answer_call.ensures.value
+    let refused =
+        close-refused p c.args.pid c.args.fd c.in-Err.error is
+        ∙ ap (λ (r : Reply). settled (numbered (node_state p)) ((node_state p).calls + 1) ((node_state p).table, r)) (sym c.reply.ensures) in
+    subst (λ (x : Effect). IfOk c.answer_call.result (λ e. x ≡ effect_of p e)) (sym refused) c.answer_call.ensures.value

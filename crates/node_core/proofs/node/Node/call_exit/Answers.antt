@@ -12,11 +12,11 @@ use Rattle.node_core.proofs.node.Node.call_exit.Goals as goal
 pub returns-then-not-is_running-clause-value : goal.returns-then-not-is_running-clause-value
 returns-then-not-is_running-clause-value c =
     let stopped = ap (λ (q : NodeParts). (processes q.processes).runs c.args.pid) (sym c.self.view_is) ∙ sym c.is_running.ensures ∙ c.if-not-is_running.true in
-    exit-refused c.args.self.now c.args.pid stopped ∙ c.answer_exit.ensures.value
+    subst (λ (x : Effect). IfOk c.answer_exit.result (λ e. x ≡ effect_of c.args.self.now e)) (sym (exit-refused c.args.self.now c.args.pid stopped)) c.answer_exit.ensures.value
 
 pub returns-clause-value : goal.returns-clause-value
 returns-clause-value c =
     let p : NodeParts = c.args.self.now in
     let runs = ap (λ (q : NodeParts). (processes q.processes).runs c.args.pid) (sym c.self.view_is) ∙ sym c.is_running.ensures ∙ c.if-not-is_running.false in
-    let all = exit-done p c.args.pid runs ∙ ap (with_freed_of (has_open (processes p.processes) c.args.pid) (node_state p).shape.files) c.answer_exit-effect.ensures.value in
+    let all = exit-done p c.args.pid runs ∙ ap (with_freed_of (has_open (processes p.processes) c.args.pid) (node_state p).shape.files) c.in_ok-effect.ensures.value in
     subst (λ (x : Effect). IfOk c.tell_open.result (λ e. x ≡ effect_of p e)) (sym all) c.tell_open.ensures.value

@@ -12,6 +12,6 @@ pub returns-clause-ok : goal.returns-clause-ok
 returns-clause-ok c =
     let p = c.args.self.now in
     let s = node_state p in
-    let came = ap (interrupted s) (sym c.open_call_of.ensures.value) ∙ c.interrupt-effect.ensures.value in
+    let came = ap (interrupted s) (sym c.open_call_of.ensures.value) ∙ c.in_ok-effect.ensures.value in
     on (is_pid c.args.pid) (Ok (outcome None (interrupted s (open_call_of s c.args.pid)))) (Err Stranger) (sym c.is_pid.ensures ∙ c.if-not-is_pid.false)
-    ∙ ap Ok (outcome-planned p (interrupted s (open_call_of s c.args.pid)) c.interrupt-effect.result None c.change.result came c.change.ensures)
+    ∙ ap Ok (outcome-planned p (interrupted s (open_call_of s c.args.pid)) c.in_ok-effect.effect None c.change.result came c.change.ensures)

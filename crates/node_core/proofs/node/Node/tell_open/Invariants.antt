@@ -9,5 +9,5 @@ abbrev pub invariant-loop-before : goal.invariant-loop-before
 invariant-loop-before l = record {
   value : with_freed_of (has_open (processes l.self.processes) l.pid) l.before (effect_of l.self l.fn.effect) ≡ effect_of l.self l.told;
   fits : PartsFit l.self l.told.edit;
-  rises : All (λ f. f < l.before + 1) l.told.edit.freed;
+  rises : All (λ f. f < l.before + 1) l.told.edit.value.freed;
 }
