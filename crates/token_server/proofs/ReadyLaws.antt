@@ -1,5 +1,6 @@
 -- What holds of a server between two steps holds after a planned step.
-use Rattle.std.specs.Prelude.{◌≡◌, ◌≢◌, ℕ, ◌+◌, ◌<◌, ◌≤◌, Bool, true, false, not, cond, ◌&&◌, ◌||◌, nat_le, List, [], ◌∷◌, ◌++◌, All, filter, find, length, Option, Some, None, Result, Ok, Err}
+use Rattle.std.specs.Prelude.{◌≡◌, ◌≢◌, ℕ, ◌+◌, ◌<◌, ◌≤◌, Bool, true, false, not, cond, ◌&&◌, ◌||◌, nat_le, List, [], ◌∷◌, ◌++◌, All, filter, find, length, Option, Some, None, Result, Ok, Err, Vec}
+use Rattle.std.specs.Global.{Global, Box}
 use Rattle.std.proofs.Common.{refl, sym, ap, subst, ◌∙◌, inl, inr, arith, append-nil, append_assoc}
 use Rattle.std.proofs.lemmas.Bool.{both_ways, leb-true, and_from, and_parts}
 use Rattle.std.proofs.lemmas.Bool.Decides.{eqb_tells}
@@ -17,8 +18,6 @@ use Rattle.token_server.specs.rule.Requests.{LineParts, is_of_call, is_up_to, Ar
 use Rattle.token_server.specs.rule.Actives.{ActiveParts, requests_of}
 use Rattle.token_server.proofs.CallLaws.{same_call-refl}
 use Rattle.token_server.specs.declared.known_nodes.known_node.KnownNode.{KnownNode}
-use Rattle.token_server.specs.declared.change.ServerDraft.{ServerDraft}
-use Rattle.token_server.specs.declared.change.EditParts.{EditParts}
 use Rattle.token_server.specs.declared.change.ServerEdit.{ServerEdit}
 use Rattle.token_server.specs.declared.sketch.Sketch.{Sketch}
 use Rattle.token_server.specs.declared.sketch.Moved.{Moved}
@@ -36,7 +35,7 @@ use Rattle.token_server.specs.rule.Parts.{ServerParts, server_state}
 use Rattle.token_server.specs.code.Ready.{AreDistinct, IsOrderly, IsReady, IsServer}
 use Rattle.token_server.specs.code.Sketches.{dropped, without, still_active, queue_moved, waiting_moved, sketched}
 use Rattle.token_server.specs.code.RowEdits.{deaths_overlaid, given_of, given_rows}
-use Rattle.token_server.specs.code.Edits.{held_still, held_without, held_after, queue_after, waiting_after, IsDrafted, drafted, many_moved, HasRoom, IsNewCall, Fits, made}
+use Rattle.token_server.specs.code.Edits.{held_still, held_without, held_after, queue_after, waiting_after, IsDrafted, drafted, many_moved, HasRoom, HeldHasRoom, IsNewCall, PartsFit, Fits, made}
 use Rattle.token_server.proofs.AdmitLaws.{ready-is}
 use Rattle.token_server.proofs.AskedLaws.{none-after, served-awaits, served-counted}
 use Rattle.token_server.proofs.AdmittingLaws.{all_but-none, calls, calls-append, calls-cons, apart-fewer, admitted-keeps_apart, admitted-leaves}
@@ -97,6 +96,17 @@ pub room-fewer : (l : LineParts) (spare : Option LineParts) (more less : ℕ) �
 room-fewer l None more less fewer room = omega arith
 room-fewer l (Some spare) more less fewer room = (room.0, omega (arith, room.1))
 
+pub room-none : (l : LineParts) (spare : Option LineParts) (more : ℕ) → HasRoom l spare more → HasRoom l spare 0
+room-none l spare more room = room-fewer l spare more 0 (omega arith) room
+
+pub held_room-none : (a : ActiveParts) (spare : Option (Vec ActiveRequest Global)) (more : ℕ) → HeldHasRoom a spare more → HeldHasRoom a spare 0
+held_room-none a None more room = omega arith
+held_room-none a (Some spare) more room = (room.0, omega (arith, room.1))
+
+-- the parts of a change that fits a server fit the server's parts
+pub parts-fit : (p q : ServerParts) (e : Box ServerEdit) (v : ServerEdit) → p ≡ q → v ≡ e.value → Fits q e → PartsFit p v
+parts-fit p q e v at is fits = subst (PartsFit p) (sym is) (subst (λ (x : ServerParts). Fits x e) (sym at) fits)
+
 -- P holds of each entry, then of each that stays active
 pub kept-all : (P : ActiveRequest → Type 0) (e : Option CallId) (d : Option (ℕ × ℕ)) (held : List ActiveRequest) → All P held → All P (held_still e (held_without d held))
 kept-all P e d held all = still e (held_without d held) (drop d)
@@ -136,12 +146,12 @@ abbrev Answer : Type 0
 Answer = Result (ServerState × List Message) StepError
 
 -- a step that makes the sketched changes
-module _ (p : ServerParts) (k : Sketch) (d : ServerDraft) (so : IsDrafted p k d) where
-  active-is : requests_of (held_after d.lists p.active.held) ≡ (sketched p k).active ++ requests_of d.lists.fresh.items
-  active-is = held_after-requests d.lists p.active.held ∙ ap (λ (xs : List TokenRequest). xs ++ requests_of d.lists.fresh.items) so.listed.served
+module _ (p : ServerParts) (k : Sketch) (d : ServerEdit) (so : IsDrafted p k d) where
+  active-is : requests_of (held_after d p.active.held) ≡ (sketched p k).active ++ requests_of d.fresh.items
+  active-is = held_after-requests d p.active.held ∙ ap (λ (xs : List TokenRequest). xs ++ requests_of d.fresh.items) so.listed.served
 
-  queue-is : queue_after d.lists p.queue.requests p.waiting.requests ≡ all_but (requests_of d.lists.fresh.items) (sketched p k).queue
-  queue-is = ap (all_but (requests_of d.lists.fresh.items)) so.listed.queued
+  queue-is : queue_after d p.queue.requests p.waiting.requests ≡ all_but (requests_of d.fresh.items) (sketched p k).queue
+  queue-is = ap (all_but (requests_of d.fresh.items)) so.listed.queued
 
   -- while a node has not reported its token, no request is active
   rests : awaits (sketched p k) ≡ true → (sketched p k).active ≡ []
@@ -154,15 +164,15 @@ module _ (p : ServerParts) (k : Sketch) (d : ServerDraft) (so : IsDrafted p k d)
   -- the drafted state is the sketched one while a node has not reported its token
   drafted-awaiting : awaits (sketched p k) ≡ true → drafted p d ≡ sketched p k
   drafted-awaiting awaited =
-      let none : d.lists.fresh.items ≡ [] = so.listed.rests awaited in
-      let active : requests_of (held_after d.lists p.active.held) ≡ (sketched p k).active = active-is ∙ ap (λ (hs : List ActiveRequest). (sketched p k).active ++ requests_of hs) none ∙ append-nil (sketched p k).active in
-      let queue : queue_after d.lists p.queue.requests p.waiting.requests ≡ (sketched p k).queue = queue-is ∙ ap (λ (hs : List ActiveRequest). all_but (requests_of hs) (sketched p k).queue) none ∙ all_but-none (sketched p k).queue in
+      let none : d.fresh.items ≡ [] = so.listed.rests awaited in
+      let active : requests_of (held_after d p.active.held) ≡ (sketched p k).active = active-is ∙ ap (λ (hs : List ActiveRequest). (sketched p k).active ++ requests_of hs) none ∙ append-nil (sketched p k).active in
+      let queue : queue_after d p.queue.requests p.waiting.requests ≡ (sketched p k).queue = queue-is ∙ ap (λ (hs : List ActiveRequest). all_but (requests_of hs) (sketched p k).queue) none ∙ all_but-none (sketched p k).queue in
       λ i. record { shape = p.shape; file = p.file; epoch = p.epoch; rows = so.rows i; dead = so.deaths i; queue = queue i; active = active i; waiting = so.listed.put_off i }
 
   drafted-ready : awaits (sketched p k) ≡ false → drafted p d ≡ ready (sketched p k)
   drafted-ready told =
       (λ i. record { shape = p.shape; file = p.file; epoch = p.epoch; rows = so.rows i; dead = so.deaths i; queue = queue-is i; active = active-is i; waiting = so.listed.put_off i })
-      ∙ sym (ready-is (sketched p k) ((sketched p k).active ++ requests_of d.lists.fresh.items) (all_but (requests_of d.lists.fresh.items) (sketched p k).queue) (so.listed.comes told).comes)
+      ∙ sym (ready-is (sketched p k) ((sketched p k).active ++ requests_of d.fresh.items) (all_but (requests_of d.fresh.items) (sketched p k).queue) (so.listed.comes told).comes)
 
   -- serving the sketched state is serving each active request of the drafted one
   pub drafted-serves : serve (sketched p k) ≡ each_served (drafted p d).active (drafted p d)
@@ -198,19 +208,19 @@ module _ (p : ServerParts) (k : Sketch) (d : ServerDraft) (so : IsDrafted p k d)
       by true is = ap are_apart (drafted-rests is)
       by false is =
           ap are_apart active-is
-          ∙ admitted-keeps_apart (sketched p k).active (sketched p k).queue (requests_of d.lists.fresh.items) (so.listed.comes is) (still-apart k.ended (dropped k.changed) (requests_of p.active.held) so.before.apart)
+          ∙ admitted-keeps_apart (sketched p k).active (sketched p k).queue (requests_of d.fresh.items) (so.listed.comes is) (still-apart k.ended (dropped k.changed) (requests_of p.active.held) so.before.apart)
 
   drafted-settled : awaits (sketched p k) ≡ false → all_stay (drafted p d).active [] (drafted p d).queue ≡ true
   drafted-settled is =
       (λ i. all_stay (active-is i) [] (queue-is i))
-      ∙ stay-all ((sketched p k).active ++ requests_of d.lists.fresh.items) [] (all_but (requests_of d.lists.fresh.items) (sketched p k).queue) (admitted-leaves (sketched p k).active (sketched p k).queue (requests_of d.lists.fresh.items) (so.listed.comes is))
+      ∙ stay-all ((sketched p k).active ++ requests_of d.fresh.items) [] (all_but (requests_of d.fresh.items) (sketched p k).queue) (admitted-leaves (sketched p k).active (sketched p k).queue (requests_of d.fresh.items) (so.listed.comes is))
 
   -- after the commands the server holds all that it has to between two steps
   module _ (ts : List SentCommand) (out : List Message) (comes : each_served (drafted p d).active (drafted p d) ≡ Ok (with_told ts (drafted p d), out)) where
     pub told-awaits : awaits (with_told ts (drafted p d)) ≡ awaits (drafted p d)
     told-awaits = served-awaits (drafted p d).active (drafted p d) (with_told ts (drafted p d)) out refl comes
 
-    pub told-ready : All (λ h. obstacle (with_told ts (drafted p d)) h.request ≡ h.at) (held_after d.lists p.active.held) → All (λ h. is_idle ((with_told ts (drafted p d)).rows h.at) ≡ false) (held_after d.lists p.active.held) → IsReady (with_told ts (drafted p d)) (held_after d.lists p.active.held)
+    pub told-ready : All (λ h. obstacle (with_told ts (drafted p d)) h.request ≡ h.at) (held_after d p.active.held) → All (λ h. is_idle ((with_told ts (drafted p d)).rows h.at) ≡ false) (held_after d p.active.held) → IsReady (with_told ts (drafted p d)) (held_after d p.active.held)
     told-ready waits quiet =
         let o : IsOrderly (drafted p d) = drafted-orderly in
         record {
@@ -261,16 +271,16 @@ pub distinct-waiting : (s : ServerState) → IsOrderly s → AreDistinct s.waiti
 distinct-waiting s o c = let a = calls-kinds c s in let few = o.distinct c in omega arith
 
 -- after a planned step a server holds all that it has to
-pub applied : (p : ServerParts) (awaiting : Bool) (e : ServerEdit) (v : EditParts) (known_nodes : List KnownNode) (active : ActiveParts) (queue waiting : LineParts) → v ≡ e.parts.value → IsServer p awaiting → Fits p e → ((n : ℕ) → rows_of known_nodes n ≡ given_rows (v.given.items ++ given_of v.draft.rows) p.known_nodes n) → deaths_of known_nodes ≡ deaths_overlaid p.known_nodes v.draft.rows → length known_nodes ≡ length p.known_nodes → active.held ≡ held_after v.draft.lists p.active.held → queue.requests ≡ queue_after v.draft.lists p.queue.requests p.waiting.requests → waiting.requests ≡ waiting_after v.draft.lists p.waiting.requests → IsServer (record { shape = p.shape; file = p.file; epoch = p.epoch; known_nodes = known_nodes; active = active; queue = queue; waiting = waiting }) v.draft.awaits
-applied p awaiting e v known_nodes active queue waiting is server fits rows deaths many held queued put_off = record {
+pub applied : (p : ServerParts) (awaiting : Bool) (v : ServerEdit) (known_nodes : List KnownNode) (active : ActiveParts) (queue waiting : LineParts) → IsServer p awaiting → PartsFit p v → ((n : ℕ) → rows_of known_nodes n ≡ given_rows (v.given.items ++ given_of v.rows) p.known_nodes n) → deaths_of known_nodes ≡ deaths_overlaid p.known_nodes v.rows → length known_nodes ≡ length p.known_nodes → active.held ≡ held_after v p.active.held → queue.requests ≡ queue_after v p.queue.requests p.waiting.requests → waiting.requests ≡ waiting_after v p.waiting.requests → IsServer (record { shape = p.shape; file = p.file; epoch = p.epoch; known_nodes = known_nodes; active = active; queue = queue; waiting = waiting }) v.awaits
+applied p awaiting v known_nodes active queue waiting server fits rows deaths many held queued put_off = record {
   each_node = many ∙ server.each_node;
   file_in = server.file_in;
   epoch_in = server.epoch_in;
-  awaited = subst (λ (w : EditParts). w.draft.awaits ≡ awaits (made p w)) (sym is) fits.awaited ∙ ap (λ (x : ServerState × List ActiveRequest). awaits x.0) whole;
-  ready = subst (λ (x : ServerState × List ActiveRequest). IsReady x.0 x.1) whole (subst (λ (w : EditParts). IsReady (made p w) (held_after w.draft.lists p.active.held)) (sym is) fits.ready);
+  awaited = fits.awaited ∙ ap (λ (x : ServerState × List ActiveRequest). awaits x.0) whole;
+  ready = subst (λ (x : ServerState × List ActiveRequest). IsReady x.0 x.1) whole fits.ready;
 }
   where
-    whole : ◌≡◌ {A = ServerState × List ActiveRequest} (made p v, held_after v.draft.lists p.active.held) (server_state (record { shape = p.shape; file = p.file; epoch = p.epoch; known_nodes = known_nodes; active = active; queue = queue; waiting = waiting }), active.held)
+    whole : ◌≡◌ {A = ServerState × List ActiveRequest} (made p v, held_after v p.active.held) (server_state (record { shape = p.shape; file = p.file; epoch = p.epoch; known_nodes = known_nodes; active = active; queue = queue; waiting = waiting }), active.held)
     whole = λ i. (record { shape = p.shape; file = p.file; epoch = p.epoch; rows = λ n. sym (rows n) i; dead = sym deaths i; queue = sym queued i; active = requests_of (sym held i); waiting = sym put_off i }, sym held i)
 
 -- a settled queue stays as it is at an admission

@@ -20,7 +20,7 @@ use Rattle.token_server.specs.declared.token_queue.token_request.TokenRequest.{T
 use Rattle.token_server.specs.rule.Requests.{is_of_call, is_up_to}
 use Rattle.token_server.specs.rule.Actives.{requests_of, waiting_for}
 use Rattle.token_server.proofs.ActiveLaws.{waiting_for-at, waiting_for-length}
-use Rattle.token_server.specs.declared.lists.Lists.{Lists}
+use Rattle.token_server.specs.declared.change.ServerEdit.{ServerEdit}
 use Rattle.token_server.specs.declared.sent_command.SentCommand.{SentCommand}
 use Rattle.token_server.specs.declared.known_nodes.server_command.Order.{Order}
 use Rattle.token_server.specs.declared.known_nodes.server_command.Order.TheVariants.{Grant, Revoke}
@@ -64,7 +64,7 @@ still-requests None held = refl
 still-requests (Some call) held = filter-requests (λ r. not (is_of_call call r)) held
 
 -- the active requests after a change: those that stay active, then those admitted
-pub held_after-requests : (l : Lists) (held : List ActiveRequest) → requests_of (held_after l held) ≡ still_active l.gone.ended (without l.gone.dropped (requests_of held)) ++ requests_of l.fresh.items
+pub held_after-requests : (l : ServerEdit) (held : List ActiveRequest) → requests_of (held_after l held) ≡ still_active l.gone.ended (without l.gone.dropped (requests_of held)) ++ requests_of l.fresh.items
 held_after-requests l held =
     map-append (λ (h : ActiveRequest). h.request) (held_still l.gone.ended (held_without l.gone.dropped (waiting_for l.ats.items held))) l.fresh.items
     ∙ ap (λ (rs : List TokenRequest). rs ++ requests_of l.fresh.items)
@@ -94,29 +94,29 @@ still-filter : (ended : Option CallId) (held : List ActiveRequest) → held_stil
 still-filter None held = filter-all held
 still-filter (Some call) held = refl
 
-pub kept-is : (l : Lists) (held : List ActiveRequest) → held_still l.gone.ended (held_without l.gone.dropped held) ≡ kept l held
+pub kept-is : (l : ServerEdit) (held : List ActiveRequest) → held_still l.gone.ended (held_without l.gone.dropped held) ≡ kept l held
 kept-is l held =
     still-filter l.gone.ended (held_without l.gone.dropped held)
     ∙ ap (λ (hs : List ActiveRequest). filter (λ h. not (is_of_any l.gone.ended h.request)) hs) (without-filter l.gone.dropped held)
     ∙ filter-twice (λ h. not (is_of_any l.gone.ended h.request)) (λ h. not (is_up_to_any l.gone.dropped h.request)) held
 
-pub held_after-kept : (l : Lists) (held : List ActiveRequest) → held_after l held ≡ kept_of l held ++ l.fresh.items
+pub held_after-kept : (l : ServerEdit) (held : List ActiveRequest) → held_after l held ≡ kept_of l held ++ l.fresh.items
 held_after-kept l held = ap (λ (hs : List ActiveRequest). hs ++ l.fresh.items) (kept-is l (waiting_for l.ats.items held))
 
-pub kept-requests : (l : Lists) (held : List ActiveRequest) → requests_of (kept l held) ≡ still_active l.gone.ended (without l.gone.dropped (requests_of held))
+pub kept-requests : (l : ServerEdit) (held : List ActiveRequest) → requests_of (kept l held) ≡ still_active l.gone.ended (without l.gone.dropped (requests_of held))
 kept-requests l held =
     ap requests_of (sym (kept-is l held))
     ∙ still-requests l.gone.ended (held_without l.gone.dropped held)
     ∙ ap (still_active l.gone.ended) (without-requests l.gone.dropped held)
 
 -- one more request stays active
-pub kept-more : (l : Lists) (xs next : List ActiveRequest) (h : ActiveRequest) → next ≡ xs ++ h ∷ [] → keeps l.gone.dropped l.gone.ended h.request ≡ true → kept l next ≡ kept l xs ++ h ∷ []
+pub kept-more : (l : ServerEdit) (xs next : List ActiveRequest) (h : ActiveRequest) → next ≡ xs ++ h ∷ [] → keeps l.gone.dropped l.gone.ended h.request ≡ true → kept l next ≡ kept l xs ++ h ∷ []
 kept-more l xs next h is on =
     ap (kept l) is
     ∙ filter-append (λ x. keeps l.gone.dropped l.gone.ended x.request) xs (h ∷ [])
     ∙ ap (λ (b : Bool). kept l xs ++ cond b (h ∷ []) []) on
 
-pub kept-less : (l : Lists) (xs next : List ActiveRequest) (h : ActiveRequest) → next ≡ xs ++ h ∷ [] → keeps l.gone.dropped l.gone.ended h.request ≡ false → kept l next ≡ kept l xs
+pub kept-less : (l : ServerEdit) (xs next : List ActiveRequest) (h : ActiveRequest) → next ≡ xs ++ h ∷ [] → keeps l.gone.dropped l.gone.ended h.request ≡ false → kept l next ≡ kept l xs
 kept-less l xs next h is off =
     ap (kept l) is
     ∙ filter-append (λ x. keeps l.gone.dropped l.gone.ended x.request) xs (h ∷ [])
@@ -139,7 +139,7 @@ pub take-next : {X : Type 0} (xs : List X) (i : ℕ) (x : X) → slice_get xs i 
 take-next xs i x there = take_more xs i x (slice_get_within xs i x there) ∙ ap (λ y. take i xs ++ y ∷ []) (get_or_from_slice_get xs i x x there)
 
 -- the requests that stay active, around one of them
-pub kept-around : (l : Lists) (ws : List ActiveRequest) (i : ℕ) (w : ActiveRequest) → slice_get ws i ≡ Some w → keeps l.gone.dropped l.gone.ended w.request ≡ true → kept l ws ++ l.fresh.items ≡ kept l (take i ws) ++ w ∷ (kept l (drop (i + 1) ws) ++ l.fresh.items)
+pub kept-around : (l : ServerEdit) (ws : List ActiveRequest) (i : ℕ) (w : ActiveRequest) → slice_get ws i ≡ Some w → keeps l.gone.dropped l.gone.ended w.request ≡ true → kept l ws ++ l.fresh.items ≡ kept l (take i ws) ++ w ∷ (kept l (drop (i + 1) ws) ++ l.fresh.items)
 kept-around l ws i w there on =
     ap (λ (hs : List ActiveRequest). kept l hs ++ l.fresh.items) (list-at ws i w (take-next ws i w there))
     ∙ ap (λ (hs : List ActiveRequest). hs ++ l.fresh.items)
@@ -376,7 +376,7 @@ pub read-place : (xs held : List ActiveRequest) (i : ℕ) (item : ActiveRequest)
 read-place xs held i item same within is = ap (λ (ys : List ActiveRequest). slice_get ys i) (sym same) ∙ slice_get-get_or xs i item within ∙ ap (λ (h : ActiveRequest). Some h) (sym is)
 
 -- the request at a place, and the row that it waits for
-pub waits-place : (l : Lists) (xs held : List ActiveRequest) (i : ℕ) (item : ActiveRequest) (ats : List ℕ) (at : ℕ) → xs ≡ held → ats ≡ l.ats.items → i < length xs → item ≡ get_or xs i item → at ≡ slice_index_or ats i item.at → slice_get (waiting_for l.ats.items held) i ≡ Some (record { request = item.request; at = at })
+pub waits-place : (l : ServerEdit) (xs held : List ActiveRequest) (i : ℕ) (item : ActiveRequest) (ats : List ℕ) (at : ℕ) → xs ≡ held → ats ≡ l.ats.items → i < length xs → item ≡ get_or xs i item → at ≡ slice_index_or ats i item.at → slice_get (waiting_for l.ats.items held) i ≡ Some (record { request = item.request; at = at })
 waits-place l xs held i item ats at same same_ats within is at_is =
     waits-at l.ats.items held i item (read-place xs held i item same within is)
     ∙ ap (λ (k : ℕ). let o : Option ActiveRequest = Some (record { request = item.request; at = k }) in o) (sym (at_is ∙ ap (λ (ys : List ℕ). slice_index_or ys i item.at) same_ats))
@@ -388,7 +388,7 @@ quiet-place s t touched held i item at quiet there same apart untouched =
     ∙ ap (λ (k : ℕ). is_idle (s.rows k)) same
     ∙ subst (λ (h : ActiveRequest). is_idle (s.rows h.at) ≡ false) (get_or_from_slice_get held i item item there) (quiet i item (slice_get_within held i item there))
 
-module _ (l : Lists) (held : List ActiveRequest) (s : ServerState) (told : List SentCommand) (i : ℕ) (w : ActiveRequest) where
+module _ (l : ServerEdit) (held : List ActiveRequest) (s : ServerState) (told : List SentCommand) (i : ℕ) (w : ActiveRequest) where
   abbrev all : List ActiveRequest
   all = held_after l held
 
@@ -435,11 +435,11 @@ module _ (l : Lists) (held : List ActiveRequest) (s : ServerState) (told : List 
         (turn-next s all (kept_of l held ++ take i l.fresh.items) (drop (i + 1) l.fresh.items) w told after fresh-split active apart a t)
 
 -- all active requests had their turn
-pub served-whole : (l : Lists) (held : List ActiveRequest) (i : ℕ) → length l.fresh.items ≤ i → kept_of l held ++ take i l.fresh.items ≡ held_after l held
+pub served-whole : (l : ServerEdit) (held : List ActiveRequest) (i : ℕ) → length l.fresh.items ≤ i → kept_of l held ++ take i l.fresh.items ≡ held_after l held
 served-whole l held i past = ap (λ (hs : List ActiveRequest). kept_of l held ++ hs) (take_all i l.fresh.items past) ∙ sym (held_after-kept l held)
 
 -- the requests from a place on are passed over: no command may go to the nodes whose rows they wait for
-pub kept-rest : (l : Lists) (held : List ActiveRequest) (s : ServerState) (told : List SentCommand) (d i : ℕ) → length held ≤ i + d → ((j : ℕ) (w : ActiveRequest) → i ≤ j → slice_get (waiting_for l.ats.items held) j ≡ Some w → is_idle ((with_told told s).rows w.at) ≡ false) → AreServed s (held_after l held) (kept l (take i (waiting_for l.ats.items held))) told → AreServed s (held_after l held) (kept_of l held) told
+pub kept-rest : (l : ServerEdit) (held : List ActiveRequest) (s : ServerState) (told : List SentCommand) (d i : ℕ) → length held ≤ i + d → ((j : ℕ) (w : ActiveRequest) → i ≤ j → slice_get (waiting_for l.ats.items held) j ≡ Some w → is_idle ((with_told told s).rows w.at) ≡ false) → AreServed s (held_after l held) (kept l (take i (waiting_for l.ats.items held))) told → AreServed s (held_after l held) (kept_of l held) told
 kept-rest l held s told zero i past quiet a =
     subst (λ (hs : List ActiveRequest). AreServed s (held_after l held) (kept l hs) told) (take_all i (waiting_for l.ats.items held) (omega (arith, past, waiting_for-length l.ats.items held))) a
 kept-rest l held s told (suc d) i past quiet a = elim (slice_get_cases (waiting_for l.ats.items held) i).1 [
@@ -455,7 +455,7 @@ index-past (a ∷ ats) zero d past = absurd (omega arith)
 index-past (a ∷ ats) (suc i) d past = index-past ats i d (omega (arith, past))
 
 -- where requests wait for the same rows as before, no command may go to the nodes of those rows, but for the touched one
-module _ (s t : ServerState) (l : Lists) (held : List ActiveRequest) (told : List SentCommand) (touched : Option ℕ) (i : ℕ) (quiet : All (λ h. is_idle (s.rows h.at) ≡ false) held) (untouched : (n : ℕ) → (touched ≡ Some n → ⊥) → t.rows n ≡ s.rows n) (past : length l.ats.items ≤ i) where
+module _ (s t : ServerState) (l : ServerEdit) (held : List ActiveRequest) (told : List SentCommand) (touched : Option ℕ) (i : ℕ) (quiet : All (λ h. is_idle (s.rows h.at) ≡ false) held) (untouched : (n : ℕ) → (touched ≡ Some n → ⊥) → t.rows n ≡ s.rows n) (past : length l.ats.items ≤ i) where
   rest-apart : (j : ℕ) (w : ActiveRequest) → i ≤ j → slice_get (waiting_for l.ats.items held) j ≡ Some w → (touched ≡ Some w.at → ⊥) → is_idle ((with_told told t).rows w.at) ≡ false
   rest-apart j w above there apart =
       let here : slice_get held j ≡ Some w = sym (waiting_for-at l.ats.items held j (omega (arith, past, above))) ∙ there in
@@ -473,7 +473,7 @@ module _ (s t : ServerState) (l : Lists) (held : List ActiveRequest) (told : Lis
   ]
 
 -- the largest span that a request keeps beside one active request more
-pub left-next : (l : Lists) (xs next : List ActiveRequest) (h : ActiveRequest) (r : TokenRequest) (span new : Range) → next ≡ xs ++ h ∷ [] → HasByte h.request → (keeps l.gone.dropped l.gone.ended h.request ≡ true → new ≡ cut r.wanted.required span h.request.wanted.required) → (keeps l.gone.dropped l.gone.ended h.request ≡ false → new ≡ span) → IsLeft (requests_of (kept l xs)) r span → IsLeft (requests_of (kept l next)) r new
+pub left-next : (l : ServerEdit) (xs next : List ActiveRequest) (h : ActiveRequest) (r : TokenRequest) (span new : Range) → next ≡ xs ++ h ∷ [] → HasByte h.request → (keeps l.gone.dropped l.gone.ended h.request ≡ true → new ≡ cut r.wanted.required span h.request.wanted.required) → (keeps l.gone.dropped l.gone.ended h.request ≡ false → new ≡ span) → IsLeft (requests_of (kept l xs)) r span → IsLeft (requests_of (kept l next)) r new
 left-next l xs next h r span new is full on off left = by (keeps l.gone.dropped l.gone.ended h.request) refl
   where
     by : (b : Bool) → keeps l.gone.dropped l.gone.ended h.request ≡ b → IsLeft (requests_of (kept l next)) r new
@@ -487,7 +487,7 @@ left-next l xs next h r span new is full on off left = by (keeps l.gone.dropped 
         (subst (λ (s : Range). IsLeft (requests_of (kept l xs)) r s) (sym (off k)) left)
 
 -- the requests that stay active: the first of them, and the others
-pub kept-parts : (l : Lists) (held : List ActiveRequest) (i : ℕ) → still_active l.gone.ended (without l.gone.dropped (requests_of held)) ≡ requests_of (kept l (take i held)) ++ requests_of (kept l (drop i held))
+pub kept-parts : (l : ServerEdit) (held : List ActiveRequest) (i : ℕ) → still_active l.gone.ended (without l.gone.dropped (requests_of held)) ≡ requests_of (kept l (take i held)) ++ requests_of (kept l (drop i held))
 kept-parts l held i =
     sym (kept-requests l held)
     ∙ ap (λ (hs : List ActiveRequest). requests_of (kept l hs)) (sym (take-append-drop i held))

@@ -8,7 +8,6 @@ pub mod event;
 mod gone;
 pub mod known_nodes;
 pub mod laws;
-pub mod lists;
 mod moves;
 mod sent_command;
 pub mod server;

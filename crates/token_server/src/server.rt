@@ -9,13 +9,14 @@ ghost use Rattle.token_server.specs.code.Told.{commands_told};
 ghost use Rattle.token_server.specs.rule.Resends.{outstanding, resend_rule};
 ghost use Rattle.token_server.specs.rule.Server.{server_rule, learn_rule};
 ghost use Rattle.token_server.specs.rule.Parts.{server_state};
+ghost use Rattle.token_server.specs.code.Sketches.{dropped};
 ghost use Rattle.token_server.specs.code.Edits.{planned, Fits};
 
-use crate::change::{EditParts, ServerChange, ServerDraft};
+use crate::change::{ServerChange, ServerEdit};
 use crate::event::ServerEvent;
 use crate::known_nodes::known_change::KnownChange;
 use crate::known_nodes::known_nodes::KnownNodes;
-use crate::moves;
+use crate::moves::{leave, move_requests};
 use crate::sent_command::SentCommand;
 use crate::sketch::{Moved, Sketch};
 use crate::token_queue::active::Active;
@@ -251,25 +252,32 @@ impl Server {
         ensures outcome { result ≡ change.outcome }
     {
         let ServerChange { edit, outcome } = change;
-        let EditParts {
-            draft,
-            given,
-            spares,
-        } = Box::into_inner(edit.parts);
-        let ServerDraft {
+        let ServerEdit {
             rows,
-            lists,
             awaits,
-        } = draft;
+            gone,
+            ats,
+            moved,
+            fresh,
+            given,
+            active_spare,
+            queue_spare,
+            waiting_spare,
+        } = Box::into_inner(edit);
         self.awaits = awaits;
         self.known_nodes.apply(rows, given);
-        moves::change(
-            &mut self.active,
-            &mut self.queue,
-            &mut self.waiting,
-            lists,
-            spares,
-        );
+        let fresh = fresh.as_slice();
+        self.active.refill(active_spare);
+        self.active.wait_for(ats.as_slice());
+        self.active.forget(gone.dropped);
+        self.active.end_one(gone.ended);
+        self.active.push_all(fresh);
+        self.waiting.refill(waiting_spare);
+        self.waiting.forget(gone.dropped);
+        self.queue.refill(queue_spare);
+        self.queue.forget(gone.dropped);
+        move_requests(&mut self.queue, &mut self.waiting, moved, fresh);
+        leave(&mut self.queue, fresh);
         outcome
     }
 

@@ -3,7 +3,7 @@ use Rattle.std.specs.Prelude.{◌≡◌, ◌≤◌, false, List, ◌++◌, filte
 use Rattle.std.specs.Option.{option_to_list}
 use Rattle.token_server.specs.declared.token_queue.active_request.ActiveRequest.{ActiveRequest}
 use Rattle.token_server.specs.rule.Actives.{requests_of, waiting_for}
-use Rattle.token_server.specs.declared.lists.Lists.{Lists}
+use Rattle.token_server.specs.declared.change.ServerEdit.{ServerEdit}
 use Rattle.token_server.specs.declared.sent_command.SentCommand.{SentCommand}
 use Rattle.token_server.specs.rule.State.{ServerState}
 use Rattle.token_server.specs.rule.Serve.{served, each_served}
@@ -12,11 +12,11 @@ use Rattle.token_server.specs.code.Told.{with_told, commands_told}
 use Rattle.token_server.specs.code.Edits.{keeps}
 
 -- the active requests that stay active
-abbrev pub kept : Lists → List ActiveRequest → List ActiveRequest
+abbrev pub kept : ServerEdit → List ActiveRequest → List ActiveRequest
 kept l held = filter (λ h. keeps l.gone.dropped l.gone.ended h.request) held
 
 -- the active requests that stay active, each with the node whose row it waits for after the change
-abbrev pub kept_of : Lists → List ActiveRequest → List ActiveRequest
+abbrev pub kept_of : ServerEdit → List ActiveRequest → List ActiveRequest
 kept_of l held = kept l (waiting_for l.ats.items held)
 
 -- after these commands the request is served: it leads to one more command, to the node whose row it waits for, if one may be sent

@@ -7,7 +7,7 @@ ghost use Rattle.token_server.specs.code.Told.{cut, cut_all};
 ghost use Rattle.token_server.specs.code.Sketches.{without, still_active};
 ghost use Rattle.token_server.specs.code.Edits.{keeps};
 
-use crate::lists::Lists;
+use crate::change::ServerEdit;
 use crate::sent_command::SentCommand;
 use crate::token_queue::active_request::ActiveRequest;
 use crate::token_queue::token_request::TokenRequest;
@@ -33,8 +33,8 @@ fn cut(required: Span, within: Span, other: Span) -> Span
 
 // The largest span within the desired one, around the required one, without bytes that active requests need which
 // stay active. Once it is down to the required bytes, no request takes a byte away.
-pub(super) fn cut_by(request: &TokenRequest, held: &[ActiveRequest], lists: &Lists) -> Span
-    ensures value { result ≡ narrowed (still_active lists.now.gone.ended (without lists.now.gone.dropped (requests_of held.now))) request.now }
+pub(super) fn cut_by(request: &TokenRequest, held: &[ActiveRequest], draft: &ServerEdit) -> Span
+    ensures value { result ≡ narrowed (still_active draft.now.gone.ended (without draft.now.gone.dropped (requests_of held.now))) request.now }
     ensures starts_before { result.lo ≤ request.now.wanted.required.lo }
     ensures ends_after { request.now.wanted.required.hi ≤ result.hi }
 {
@@ -44,18 +44,18 @@ pub(super) fn cut_by(request: &TokenRequest, held: &[ActiveRequest], lists: &Lis
         if span == required {
             return span;
         }
-        span = cut_by_one(required, span, other, lists);
+        span = cut_by_one(required, span, other, draft);
     }
     span
 }
 
 // `required`, widened inside `within` until it meets the bytes that the other active request needs, if that one stays
 // active.
-fn cut_by_one(required: Span, within: Span, other: &ActiveRequest, lists: &Lists) -> Span
+fn cut_by_one(required: Span, within: Span, other: &ActiveRequest, draft: &ServerEdit) -> Span
     requires starts_within { within.lo ≤ required.lo }
     requires ends_within { required.hi ≤ within.hi }
-    ensures kept { keeps lists.now.gone.dropped lists.now.gone.ended other.now.request ≡ true → result ≡ cut required within other.now.request.wanted.required }
-    ensures gone { keeps lists.now.gone.dropped lists.now.gone.ended other.now.request ≡ false → result ≡ within }
+    ensures kept { keeps draft.now.gone.dropped draft.now.gone.ended other.now.request ≡ true → result ≡ cut required within other.now.request.wanted.required }
+    ensures gone { keeps draft.now.gone.dropped draft.now.gone.ended other.now.request ≡ false → result ≡ within }
     ensures ordered { other.now.request.wanted.required.lo ≤ other.now.request.wanted.required.hi }
 {
     let _ = &required.lo; // tells the proof that the span has a byte
@@ -63,7 +63,7 @@ fn cut_by_one(required: Span, within: Span, other: &ActiveRequest, lists: &Lists
     if !other.request.meets(within) {
         return within;
     }
-    if !lists.gone.keeps(&other.request) {
+    if !draft.gone.keeps(&other.request) {
         return within;
     }
     cut(required, within, needed)

@@ -1,5 +1,5 @@
 //! How a token server plans what an event changes: the draft of it, and then what serving adds.
-ghost use Rattle.std.specs.Prelude.{◌≡◌, ◌≢◌, ℕ, ◌-◌, ◌<◌, false, ◌&&◌, length, IfSome, IfOk, IfErr, [], Option, Some, None, Ok, Err};
+ghost use Rattle.std.specs.Prelude.{◌≡◌, ◌≢◌, ℕ, ◌-◌, ◌<◌, false, ◌&&◌, IfSome, IfOk, IfErr, [], Option, Some, None, Ok, Err};
 ghost use Rattle.model.specs.rule.Limits.{IsNumber};
 ghost use Rattle.messages.specs.rule.Messages.{sending};
 ghost use Rattle.token_server.specs.rule.Actives.{requests_of};
@@ -12,17 +12,13 @@ ghost use Rattle.token_server.specs.code.Ready.{IsOrderly};
 ghost use Rattle.token_server.specs.code.Changes.{rows_after};
 ghost use Rattle.token_server.specs.code.Sketches.{dropped, without, sketched};
 ghost use Rattle.token_server.specs.code.RowEdits.{rows_overlaid};
-ghost use Rattle.token_server.specs.code.Edits.{reached, planned, AreListed, IsDrafted, Fits, HasRoom, HeldHasRoom, many_moved, many_put_off};
+ghost use Rattle.token_server.specs.code.Edits.{reached, planned, IsDrafted, Fits};
 
 use super::Server;
-use crate::change::{ServerChange, ServerDraft, ServerEdit};
+use crate::change::{ServerChange, ServerEdit};
 use crate::gone::Gone;
 use crate::known_nodes::row_edit::RowEdit;
-use crate::lists::{Lists, Spares};
 use crate::sketch::{Moved, Sketch};
-use crate::token_queue::active::Active;
-use crate::token_queue::active_request::ActiveRequest;
-use crate::token_queue::line::Line;
 use messages::items::Items;
 use messages::message::Message;
 use messages::outcome::Outcome;
@@ -54,47 +50,6 @@ impl Server {
         self.awaits && self.known_nodes.awaits(rows, self.shape.nodes())
     }
 
-    // The change of the requests in a step.
-    fn lists(
-        &self,
-        alloc: Global,
-        rows: &Option<RowEdit>,
-        awaiting: bool,
-        sketch: &Sketch,
-    ) -> Result<Lists, AllocError>
-        requires rows { rows_overlaid self.now.known_nodes rows.now ≡ rows_after sketch.now.changed (rows_of self.now.known_nodes) }
-        requires awaited { awaiting ≡ awaits (reached self.now rows.now) }
-        requires in_cluster { IfSome sketch.now.changed (λ c. IsNumber self.now.shape.nodes c.node) }
-        requires orderly { IsOrderly (sketched self.now sketch.now) }
-        ensures { IfOk result (λ lists. AreListed self.now sketch.now rows.now lists) }
-    {
-        let dropped = self.newly_dead(sketch);
-        let gone = Gone {
-            dropped,
-            ended: sketch.ended,
-        };
-        let fresh = self.admit(alloc, awaiting, &gone, &sketch.moved)?;
-        Ok(Lists {
-            gone,
-            ats: self.awaited(alloc, rows, &sketch.changed)?,
-            moved: sketch.moved,
-            fresh: self.hold(alloc, rows, fresh.as_slice())?,
-        })
-    }
-
-    // The memory for the change of the requests.
-    fn spares(&self, lists: &Lists) -> Result<Spares, AllocError>
-        ensures active { IfOk result (λ spares. HeldHasRoom self.now.active spares.active (length lists.now.fresh.items)) }
-        ensures queue { IfOk result (λ spares. HasRoom self.now.queue spares.queue (many_moved lists.now.moved (without lists.now.gone.dropped self.now.waiting.requests))) }
-        ensures waiting { IfOk result (λ spares. HasRoom self.now.waiting spares.waiting (many_put_off lists.now.moved)) }
-    {
-        Ok(Spares {
-            active: spare_active(&self.active, lists.fresh.len())?,
-            queue: spare_line(&self.queue, lists.moved.many(&self.waiting))?,
-            waiting: spare_line(&self.waiting, lists.moved.put_off())?,
-        })
-    }
-
     // The node whose row the edit changes, if there is an edit.
     pub(super) fn touched(&self, rows: &Option<RowEdit>, sketch: &Sketch) -> Option<u8>
         requires { rows_overlaid self.now.known_nodes rows.now ≡ rows_after sketch.now.changed (rows_of self.now.known_nodes) }
@@ -105,18 +60,30 @@ impl Server {
     }
 
     // The draft of a step: what the event changes before the server serves.
-    fn draft(&self, sketch: &Sketch, alloc: Global) -> Result<ServerDraft, AllocError>
+    fn draft(&self, sketch: &Sketch, alloc: Global) -> Result<ServerEdit, AllocError>
         requires in_cluster { IfSome sketch.now.changed (λ c. IsNumber self.now.shape.nodes c.node) }
         requires orderly { IsOrderly (sketched self.now sketch.now) }
         ensures { IfOk result (λ draft. IsDrafted self.now sketch.now draft) }
     {
         let rows = self.known_nodes.edit(alloc, &sketch.changed)?;
         let awaits = self.awaits_after(&rows);
-        let lists = self.lists(alloc, &rows, awaits, sketch)?;
-        Ok(ServerDraft {
+        let dropped = self.newly_dead(sketch);
+        let gone = Gone {
+            dropped,
+            ended: sketch.ended,
+        };
+        let admitted = self.admit(alloc, awaits, &gone, &sketch.moved)?;
+        Ok(ServerEdit {
+            ats: self.awaited(alloc, &rows, &sketch.changed)?,
+            fresh: self.hold(alloc, &rows, admitted.as_slice())?,
             rows,
-            lists,
             awaits,
+            gone,
+            moved: sketch.moved,
+            given: Vec::new(alloc),
+            active_spare: None,
+            queue_spare: None,
+            waiting_spare: None,
         })
     }
 
@@ -126,7 +93,7 @@ impl Server {
         &self,
         sketch: &Sketch,
         alloc: Global,
-    ) -> Result<(ServerEdit, Items<Message>), StepError>
+    ) -> Result<(Box<ServerEdit>, Items<Message>), StepError>
         requires in_cluster { IfSome sketch.now.changed (λ c. IsNumber self.now.shape.nodes c.node) }
         requires orderly { IsOrderly (sketched self.now sketch.now) }
         ensures ok { IfOk result (λ r. serve (sketched self.now sketch.now) ≡ Ok (planned self.now r.0, r.1)) }
@@ -135,8 +102,17 @@ impl Server {
     {
         let draft = self.draft(sketch, alloc)?;
         let (given, commands) = self.serve_draft(&draft, sketch, alloc)?;
-        let spares = self.spares(&draft.lists)?;
-        Ok((ServerEdit::new(alloc, draft, given, spares)?, commands))
+        let active_spare = self.active.spare_for(draft.fresh.as_slice())?;
+        let queue_spare = self.queue.spare_for(draft.moved.many(&self.waiting))?;
+        let waiting_spare = self.waiting.spare_for(draft.moved.put_off())?;
+        let edit = ServerEdit {
+            given,
+            active_spare,
+            queue_spare,
+            waiting_spare,
+            ..draft
+        };
+        Ok((Box::new(alloc, edit)?, commands))
     }
 
     // Serves, and puts these messages before those that serving sends.
@@ -171,24 +147,4 @@ impl Server {
         let _ = &self.shape; // tells the proof what holds between two steps
         self.serve_after(&Sketch::moving(Moved::Nothing), alloc, Items::new(alloc))
     }
-}
-
-// Memory for that many more active requests, where the list has too little room.
-fn spare_active(active: &Active, more: usize) -> Result<Option<Vec<ActiveRequest>>, AllocError>
-    ensures { IfOk result (λ spare. HeldHasRoom active.now spare more) }
-{
-    if more <= active.room() {
-        return Ok(None);
-    }
-    Ok(Some(active.spare_for(more)?))
-}
-
-// Memory for that many more requests of a line, where it has too little room.
-fn spare_line(line: &Line, more: usize) -> Result<Option<Line>, AllocError>
-    ensures { IfOk result (λ spare. HasRoom line.now spare more) }
-{
-    if more <= line.room() {
-        return Ok(None);
-    }
-    Ok(Some(line.spare_for(more)?))
 }

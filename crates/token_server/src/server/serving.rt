@@ -18,7 +18,7 @@ ghost use Rattle.token_server.specs.code.Turns.{kept_of, IsTurn, AreServed};
 
 use super::cuts::{cut_by, cut_by_all, cut_granted};
 use super::{Server, commands_told};
-use crate::change::ServerDraft;
+use crate::change::ServerEdit;
 use crate::known_nodes::commands::Commands;
 use crate::known_nodes::new_row::NewRow;
 use crate::known_nodes::server_command::{Order, ServerCommand};
@@ -39,7 +39,7 @@ use std::alloc::{AllocError, Global};
 impl Server {
     // The largest span within the desired one, around the required one, without bytes that another active request
     // needs.
-    fn narrowed(&self, draft: &ServerDraft, request: &TokenRequest) -> Span
+    fn narrowed(&self, draft: &ServerEdit, request: &TokenRequest) -> Span
         ensures value { result ≡ narrowed (drafted self.now draft.now).active request.now }
         ensures starts_before { result.lo ≤ request.now.wanted.required.lo }
         ensures ends_after { request.now.wanted.required.hi ≤ result.hi }
@@ -49,18 +49,13 @@ impl Server {
         if desired == required {
             return desired;
         }
-        let span = cut_by(request, self.active.as_slice(), &draft.lists);
-        cut_by_all(required, span, draft.lists.fresh.as_slice())
+        let span = cut_by(request, self.active.as_slice(), draft);
+        cut_by_all(required, span, draft.fresh.as_slice())
     }
 
     // The span that the request is granted: the largest within the narrowed desired span that no row of another node
     // conflicts with.
-    fn granted_span(
-        &self,
-        draft: &ServerDraft,
-        told: &[SentCommand],
-        request: &TokenRequest,
-    ) -> Span
+    fn granted_span(&self, draft: &ServerEdit, told: &[SentCommand], request: &TokenRequest) -> Span
         requires { self.now.shape.nodes < conflicting_node (with_told told.now (drafted self.now draft.now)) request.now }
         ensures { result ≡ granted_span (with_told told.now (drafted self.now draft.now)) request.now }
     {
@@ -81,7 +76,7 @@ impl Server {
     // conflicts with the mode, after the commands of `told` were sent.
     fn free_around<'a>(
         &'a self,
-        draft: &'a ServerDraft,
+        draft: &'a ServerEdit,
         told: &[SentCommand],
         node: u8,
         required: Span,
@@ -108,7 +103,7 @@ impl Server {
     // The commands to the node after those of `told` were sent, if it has a row.
     fn commands_to<'a>(
         &'a self,
-        draft: &'a ServerDraft,
+        draft: &'a ServerEdit,
         told: &[SentCommand],
         node: u8,
     ) -> Option<Commands>
@@ -130,7 +125,7 @@ impl Server {
     // that node is outstanding.
     fn command(
         &self,
-        draft: &ServerDraft,
+        draft: &ServerEdit,
         told: &[SentCommand],
         request: &TokenRequest,
         at: u8,
@@ -160,7 +155,7 @@ impl Server {
     // the required bytes.
     fn order(
         &self,
-        draft: &ServerDraft,
+        draft: &ServerEdit,
         told: &[SentCommand],
         request: &TokenRequest,
         at: u8,
@@ -196,7 +191,7 @@ impl Server {
     // Serves one active request: puts the command that it leads to behind `told`.
     fn serve_one(
         &self,
-        draft: &ServerDraft,
+        draft: &ServerEdit,
         told: &mut Vec<SentCommand>,
         held: &ActiveRequest,
     ) -> Result<(), StepError>
@@ -218,20 +213,20 @@ impl Server {
     // one command to that node no other request for its row can.
     fn commands_kept(
         &self,
-        draft: &ServerDraft,
+        draft: &ServerEdit,
         touched: Option<u8>,
         alloc: Global,
     ) -> Result<Vec<SentCommand>, StepError>
-        requires waits { All (λ h. obstacle (drafted self.now draft.now) h.request ≡ h.at) (held_after draft.now.lists self.now.active.held) }
+        requires waits { All (λ h. obstacle (drafted self.now draft.now) h.request ≡ h.at) (held_after draft.now self.now.active.held) }
         requires apart { are_apart (drafted self.now draft.now).active ≡ true }
         requires untouched { (n : ℕ) → touched ≢ Some n → (drafted self.now draft.now).rows n ≡ (server_state self.now).rows n }
         requires counted { AreOfEpoch (drafted self.now draft.now) }
-        ensures ok { IfOk result (λ told. AreServed (drafted self.now draft.now) (held_after draft.now.lists self.now.active.held) (kept_of draft.now.lists self.now.active.held) told.items) }
+        ensures ok { IfOk result (λ told. AreServed (drafted self.now draft.now) (held_after draft.now self.now.active.held) (kept_of draft.now self.now.active.held) told.items) }
         ensures err { IfErr result (λ e. e ≢ StepError.NoMemory → each_served (drafted self.now draft.now).active (drafted self.now draft.now) ≡ Err e) }
     {
         let mut told = Vec::new(alloc);
         let active = self.active.as_slice();
-        let ats = draft.lists.ats.as_slice();
+        let ats = draft.ats.as_slice();
         if none_may_come(ats, touched) {
             return Ok(told);
         }
@@ -247,7 +242,7 @@ impl Server {
                 }
                 continue;
             }
-            if draft.lists.gone.keeps(&held.request) {
+            if draft.gone.keeps(&held.request) {
                 let request = held.request;
                 self.serve_one(draft, &mut told, &ActiveRequest { request, at })?;
             }
@@ -258,22 +253,22 @@ impl Server {
     // The commands for all active requests in order: first those that stay active, then those that are admitted.
     fn commands(
         &self,
-        draft: &ServerDraft,
+        draft: &ServerEdit,
         touched: Option<u8>,
         alloc: Global,
     ) -> Result<Vec<SentCommand>, StepError>
-        requires waits { All (λ h. obstacle (drafted self.now draft.now) h.request ≡ h.at) (held_after draft.now.lists self.now.active.held) }
+        requires waits { All (λ h. obstacle (drafted self.now draft.now) h.request ≡ h.at) (held_after draft.now self.now.active.held) }
         requires apart { are_apart (drafted self.now draft.now).active ≡ true }
         requires untouched { (n : ℕ) → touched ≢ Some n → (drafted self.now draft.now).rows n ≡ (server_state self.now).rows n }
         requires counted { AreOfEpoch (drafted self.now draft.now) }
         ensures ok { IfOk result (λ told. each_served (drafted self.now draft.now).active (drafted self.now draft.now) ≡ Ok (with_told told.items (drafted self.now draft.now), commands_told told.items)) }
         ensures nodes { IfOk result (λ told. All (λ t. 1 ≤ t.node) told.items) }
-        ensures waits { IfOk result (λ told. All (λ h. obstacle (with_told told.items (drafted self.now draft.now)) h.request ≡ h.at) (held_after draft.now.lists self.now.active.held)) }
-        ensures quiet { IfOk result (λ told. All (λ h. is_idle ((with_told told.items (drafted self.now draft.now)).rows h.at) ≡ false) (held_after draft.now.lists self.now.active.held)) }
+        ensures waits { IfOk result (λ told. All (λ h. obstacle (with_told told.items (drafted self.now draft.now)) h.request ≡ h.at) (held_after draft.now self.now.active.held)) }
+        ensures quiet { IfOk result (λ told. All (λ h. is_idle ((with_told told.items (drafted self.now draft.now)).rows h.at) ≡ false) (held_after draft.now self.now.active.held)) }
         ensures err { IfErr result (λ e. e ≢ StepError.NoMemory → each_served (drafted self.now draft.now).active (drafted self.now draft.now) ≡ Err e) }
     {
         let mut told = self.commands_kept(draft, touched, alloc)?;
-        for held in draft.lists.fresh.as_slice() {
+        for held in draft.fresh.as_slice() {
             self.serve_one(draft, &mut told, held)?;
         }
         Ok(told)
@@ -282,7 +277,7 @@ impl Server {
     // Serves the requests of a draft: the new rows that the commands make, and the commands.
     pub(super) fn serve_draft(
         &self,
-        draft: &ServerDraft,
+        draft: &ServerEdit,
         sketch: &Sketch,
         alloc: Global,
     ) -> Result<(Vec<NewRow>, Items<Message>), StepError>
@@ -299,7 +294,7 @@ impl Server {
     // The new rows that the commands make.
     fn given(
         &self,
-        draft: &ServerDraft,
+        draft: &ServerEdit,
         alloc: Global,
         told: &[SentCommand],
     ) -> Result<Vec<NewRow>, AllocError>
@@ -315,7 +310,7 @@ impl Server {
     }
 
     // The new row that one command makes.
-    fn given_one(&self, draft: &ServerDraft, told: &SentCommand) -> Result<NewRow, AllocError>
+    fn given_one(&self, draft: &ServerEdit, told: &SentCommand) -> Result<NewRow, AllocError>
         requires { 1 ≤ told.now.node }
         ensures place { IfOk result (λ given. given.place + 1 ≡ told.now.node) }
         ensures row { IfOk result (λ given. given_to_known_node given (known_node_at self.now.known_nodes told.now.node) ≡ row_told (Some told.now) (rows_overlaid self.now.known_nodes draft.now.rows told.now.node)) }

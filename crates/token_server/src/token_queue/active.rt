@@ -1,11 +1,12 @@
 //! The active requests of a token server, in order. A function here that gives a `Result` answers `AllocError` where
 //! a request for memory was refused.
-ghost use Rattle.std.specs.Prelude.{◌≡◌, ◌↔◌, ◌+◌, ◌<◌, ◌≤◌, ◌++◌, ◌∷◌, [], not, filter, find, map, length, IfSome, IfOk, IsTrue, None};
+ghost use Rattle.std.specs.Prelude.{◌≡◌, ◌↔◌, ℕ, ◌<◌, ◌≤◌, ◌++◌, [], not, filter, find, length, IfSome, IfOk, IsTrue, None};
 ghost use Rattle.std.specs.List.{count_by, remove};
-ghost use Rattle.std.specs.Option.{option_map};
 ghost use Rattle.std.specs.Vec.{vec_capacity};
 ghost use Rattle.token_server.specs.rule.Requests.{is_of_call, is_up_to};
 ghost use Rattle.token_server.specs.rule.Actives.{requests_of, waiting_for};
+ghost use Rattle.token_server.specs.code.Ready.{AreDistinct};
+ghost use Rattle.token_server.specs.code.Edits.{held_still, held_without, HeldHasRoom};
 
 use crate::token_queue::active_request::ActiveRequest;
 use crate::token_queue::token_request::TokenRequest;
@@ -18,7 +19,7 @@ use std::marker::Model;
 const LEAST_ROOM: usize = 8;
 
 /// The active requests of a token server, in order, each with the node whose row it waits for. Only `copy` and
-/// `spare_for` take memory: `push` needs room that is there already.
+/// `spare_for` take memory: `push_all` needs room that is there already.
 #[derive(Drop)]
 pub struct Active {
     held: Vec<ActiveRequest>,
@@ -94,32 +95,37 @@ impl Active {
         same_requests(&self.held, &other.held)
     }
 
-    /// Appends the request, in room that is there already.
-    pub fn push(&mut self, held: ActiveRequest)
-        requires { 0 < self.old.room }
-        ensures held { self.new.held ≡ self.old.held ++ held ∷ [] }
-        ensures room { self.new.room + 1 ≡ self.old.room }
+    /// Appends the requests, in room that is there already.
+    pub fn push_all(&mut self, fresh: &[ActiveRequest])
+        requires { length fresh.now ≤ self.old.room }
+        ensures { self.new.held ≡ self.old.held ++ fresh.now }
     {
-        self.held.push_reserved(held);
-        self.room -= 1;
+        let Ok(()) = self.held.extend_from_slice(fresh) else {
+            unreachable!()
+        };
+        self.room -= fresh.len();
     }
 
-    /// Removes the request of the call, if there is one. No call has two requests here, so the walk stops at the
-    /// first.
-    pub fn end_one(&mut self, call: CallId)
-        requires { count_by (is_of_call call) (requests_of self.old.held) ≤ 1 }
-        ensures held { self.new.held ≡ filter (λ h. not (is_of_call call h.request)) self.old.held }
+    /// Removes the request of the call, if one is named and has one. No call has two requests here, so the walk stops
+    /// at the first.
+    pub fn end_one(&mut self, ended: Option<CallId>)
+        requires { AreDistinct (requests_of self.old.held) }
+        ensures held { self.new.held ≡ held_still ended self.old.held }
         ensures room { self.new.room ≡ self.old.room }
     {
-        end_one(&mut self.held, call);
+        if let Some(call) = ended {
+            end_one(&mut self.held, call);
+        }
     }
 
-    /// Removes the requests of the node in that incarnation or an older one.
-    pub fn forget(&mut self, node: u8, incarnation: u16)
-        ensures held { self.new.held ≡ filter (λ h. not (is_up_to node incarnation h.request)) self.old.held }
+    /// Removes the requests of the node in that incarnation or an older one, if they are named.
+    pub fn forget(&mut self, dropped: Option<(u8, u16)>)
+        ensures held { self.new.held ≡ held_without dropped self.old.held }
         ensures room { self.new.room ≡ self.old.room }
     {
-        forget(&mut self.held, node, incarnation);
+        if let Some((node, incarnation)) = dropped {
+            forget(&mut self.held, node, incarnation);
+        }
     }
 
     /// Sets the nodes whose rows the first requests wait for: request i waits for `ats[i]`. Requests beyond `ats`
@@ -131,32 +137,38 @@ impl Active {
         wait_for(&mut self.held, ats);
     }
 
-    /// An empty list for `refill`, with room for the requests here and `more`, and where that fits in `usize` for
-    /// twice as many and a few.
-    pub fn spare_for(&self, more: usize) -> Result<Vec<ActiveRequest>, AllocError>
-        ensures empty { IfOk result (λ spare. spare.items ≡ []) }
-        ensures room { IfOk result (λ spare. length self.now.held + more ≤ vec_capacity spare) }
+    /// An empty list for `refill`, where the list has too little room for these requests: with room for those here and
+    /// these, and where that fits in `usize` for twice as many and a few.
+    pub fn spare_for(
+        &self,
+        fresh: &[ActiveRequest],
+    ) -> Result<Option<Vec<ActiveRequest>>, AllocError>
+        ensures { IfOk result (λ spare. HeldHasRoom self.now spare (length fresh.now)) }
     {
-        let many = self.held.len().saturating_add(more);
-        let Some(ample) = many.checked_mul(2) else {
-            return Vec::with_capacity(*self.held.allocator(), many);
+        if fresh.len() <= self.room {
+            return Ok(None);
+        }
+        let many = self.held.len().saturating_add(fresh.len());
+        let ample = match many.checked_mul(2) {
+            Some(twice) => twice.saturating_add(LEAST_ROOM),
+            None => many,
         };
-        Vec::with_capacity(*self.held.allocator(), ample.saturating_add(LEAST_ROOM))
+        Ok(Some(Vec::with_capacity(*self.held.allocator(), ample)?))
     }
 
-    /// Moves the requests into the spare list, whose room the list has from now on.
-    pub fn refill(&mut self, spare: Vec<ActiveRequest>)
-        requires empty { spare.items ≡ [] }
-        requires room { length self.old.held ≤ vec_capacity spare }
+    /// Moves the requests into the spare list, if there is one, whose room the list has from then on.
+    pub fn refill(&mut self, spare: Option<Vec<ActiveRequest>>)
+        requires { HeldHasRoom self.old spare 0 }
         ensures held { self.new.held ≡ self.old.held }
-        ensures room { self.new.room + length self.old.held ≡ vec_capacity spare }
+        ensures room { (more : ℕ) → HeldHasRoom self.old spare more → more ≤ self.new.room }
     {
-        let room = spare.capacity() - self.held.len();
-        let mut spare = spare;
+        let Some(mut spare) = spare else {
+            return;
+        };
+        self.room = spare.capacity() - self.held.len();
         let Ok(()) = spare.extend_from_slice(&self.held) else {
             unreachable!()
         };
-        self.room = room;
         self.held = spare;
     }
 }

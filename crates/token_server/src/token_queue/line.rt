@@ -1,7 +1,9 @@
 //! A line: requests in the order in which they are to be served. A function here that gives a `Result` answers
 //! `AllocError` where a request for memory was refused.
-ghost use Rattle.std.specs.Prelude.{◌≡◌, ◌↔◌, ◌+◌, ◌-◌, ◌<◌, ◌≤◌, ◌^◌, ◌++◌, ◌∷◌, [], not, filter, find, drop, length, slice_get, None, IfOk, IsTrue};
-ghost use Rattle.token_server.specs.rule.Requests.{is_of_call, is_up_to, requests_in, AreOfDistinctCalls};
+ghost use Rattle.std.specs.Prelude.{◌≡◌, ◌↔◌, ℕ, ◌+◌, ◌-◌, ◌<◌, ◌≤◌, ◌^◌, ◌++◌, ◌∷◌, [], not, filter, find, drop, length, slice_get, None, IfOk, IsTrue};
+ghost use Rattle.token_server.specs.rule.Requests.{is_of_call, requests_in, AreOfDistinctCalls};
+ghost use Rattle.token_server.specs.code.Sketches.{without};
+ghost use Rattle.token_server.specs.code.Edits.{HasRoom};
 
 use crate::token_queue::slots::Slots;
 use crate::token_queue::token_request::TokenRequest;
@@ -142,12 +144,15 @@ impl Line {
         }
     }
 
-    /// Drops the requests of the node in that incarnation or an older one. Walks the line. The others keep their
-    /// order. Takes no memory.
-    pub fn forget(&mut self, node: u8, incarnation: u16)
-        ensures requests { self.new.requests ≡ filter (λ r. not (is_up_to node incarnation r)) self.old.requests }
+    /// Drops the requests of the node in that incarnation or an older one, if they are named. Then it walks the line.
+    /// The others keep their order. Takes no memory.
+    pub fn forget(&mut self, dropped: Option<(u8, u16)>)
+        ensures requests { self.new.requests ≡ without dropped self.old.requests }
         ensures room { self.new.room ≡ self.old.room }
     {
+        let Some((node, incarnation)) = dropped else {
+            return;
+        };
         for place in self.front..self.slots.as_slice().len() {
             if let Some(request) = self.slots.as_slice()[place] {
                 if request.is_up_to(node, incarnation) {
@@ -195,29 +200,32 @@ impl Line {
         }
     }
 
-    /// An empty line for `refill`, with room for twice as many as the requests here and `more` together, and a few.
-    /// If these together are more than `usize` counts, memory is refused.
-    pub fn spare_for(&self, more: usize) -> Result<Line, AllocError>
-        ensures empty { IfOk result (λ spare. spare.requests ≡ []) }
-        ensures room { IfOk result (λ spare. length self.now.requests + more ≤ spare.room) }
+    /// An empty line for `refill`, where the line has too little room for `more` requests: with room for twice as many
+    /// as the requests here and `more` together, and a few. If these together are more than `usize` counts, memory is
+    /// refused.
+    pub fn spare_for(&self, more: usize) -> Result<Option<Line>, AllocError>
+        ensures { IfOk result (λ spare. HasRoom self.now spare more) }
     {
+        if more <= self.room() {
+            return Ok(None);
+        }
         let Some(needed) = self.len().checked_add(more) else {
             return Err(AllocError);
         };
-        Line::with_room(
-            self.allocator(),
-            needed.saturating_add(needed).saturating_add(LEAST_ROOM),
-        )
+        let ample = needed.saturating_add(needed).saturating_add(LEAST_ROOM);
+        Ok(Some(Line::with_room(self.allocator(), ample)?))
     }
 
-    /// Moves the requests into the empty spare line, whose room the line has from now on. Takes no memory.
-    pub fn refill(&mut self, spare: Line)
-        requires empty { spare.requests ≡ [] }
-        requires room { length self.old.requests ≤ spare.room }
+    /// Moves the requests into the empty spare line, if there is one, whose room the line has from then on. Takes no
+    /// memory.
+    pub fn refill(&mut self, spare: Option<Line>)
+        requires { HasRoom self.old spare 0 }
         ensures requests { self.new.requests ≡ self.old.requests }
-        ensures room { self.new.room + length self.old.requests ≡ spare.room }
+        ensures room { (more : ℕ) → HasRoom self.old spare more → more ≤ self.new.room }
     {
-        let mut spare = spare;
+        let Some(mut spare) = spare else {
+            return;
+        };
         let _count = self.len(); // tells the proof that no two are of one call
         spare.push_all(self.slots());
         *self = spare;

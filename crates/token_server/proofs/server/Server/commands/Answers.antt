@@ -3,7 +3,7 @@ use Rattle.std.proofs.Common.{refl, ap, subst, take, drop, arith}
 use Rattle.std.proofs.lemmas.Result.{err_from_is_err_and}
 use Rattle.token_server.specs.declared.token_queue.active_request.ActiveRequest.{ActiveRequest}
 use Rattle.token_server.specs.rule.Actives.{requests_of}
-use Rattle.token_server.specs.declared.lists.Lists.{Lists}
+use Rattle.token_server.specs.declared.change.ServerEdit.{ServerEdit}
 use Rattle.token_server.specs.rule.State.{ServerState}
 use Rattle.token_server.specs.code.Obstacles.{is_idle}
 use Rattle.token_server.specs.rule.Serve.{each_served}
@@ -18,7 +18,7 @@ pub serve_one-requires-clause-waits : goal.serve_one-requires-clause-waits
 serve_one-requires-clause-waits c =
     let i = c.loop-held.held-index in
     let s : ServerState = drafted c.args.self.now c.args.draft.now in
-    let l : Lists = c.args.draft.now.lists in
+    let l : ServerEdit = c.args.draft.now in
     let held : List ActiveRequest = c.args.self.now.active.held in
     let w : ActiveRequest = c.held-item.result in
     let there : slice_get l.fresh.items i ≡ Some w = read-place c.as_slice-held-items.result.now l.fresh.items i w c.as_slice-held-items.ensures.value c.loop-held-test.true c.held-item.is in
@@ -31,7 +31,7 @@ pub returns-in_err-serve_one-clause-err : goal.returns-in_err-serve_one-clause-e
 returns-in_err-serve_one-clause-err c =
     let i = c.loop-held.held-index in
     let s : ServerState = drafted c.args.self.now c.args.draft.now in
-    let l : Lists = c.args.draft.now.lists in
+    let l : ServerEdit = c.args.draft.now in
     let held : List ActiveRequest = c.args.self.now.active.held in
     let w : ActiveRequest = c.held-item.result in
     let there : slice_get l.fresh.items i ≡ Some w = read-place c.as_slice-held-items.result.now l.fresh.items i w c.as_slice-held-items.ensures.value c.loop-held-test.true c.held-item.is in
@@ -45,7 +45,7 @@ pub loop-held-preserved : goal.loop-held-preserved
 loop-held-preserved c =
     let i = c.loop-held.held-index in
     let s : ServerState = drafted c.args.self.now c.args.draft.now in
-    let l : Lists = c.args.draft.now.lists in
+    let l : ServerEdit = c.args.draft.now in
     let held : List ActiveRequest = c.args.self.now.active.held in
     let w : ActiveRequest = c.held-item.result in
     let there : slice_get l.fresh.items i ≡ Some w = read-place c.as_slice-held-items.result.now l.fresh.items i w c.as_slice-held-items.ensures.value c.loop-held-test.true c.held-item.is in
@@ -54,7 +54,7 @@ loop-held-preserved c =
 pub returns-clause-ok : goal.returns-clause-ok
 returns-clause-ok c =
     let s : ServerState = drafted c.args.self.now c.args.draft.now in
-    let l : Lists = c.args.draft.now.lists in
+    let l : ServerEdit = c.args.draft.now in
     let held : List ActiveRequest = c.args.self.now.active.held in
     let many : length c.as_slice-held-items.result.now ≡ length l.fresh.items = ap (λ (hs : List ActiveRequest). length hs) c.as_slice-held-items.ensures.value in
     let all : kept_of l held ++ take c.loop-held.held-index l.fresh.items ≡ held_after l held = served-whole l held c.loop-held.held-index (omega (arith, many, c.loop-held-test.false)) in
@@ -64,7 +64,7 @@ returns-clause-ok c =
 pub returns-clause-quiet : goal.returns-clause-quiet
 returns-clause-quiet c =
     let s : ServerState = drafted c.args.self.now c.args.draft.now in
-    let l : Lists = c.args.draft.now.lists in
+    let l : ServerEdit = c.args.draft.now in
     let held : List ActiveRequest = c.args.self.now.active.held in
     let many : length c.as_slice-held-items.result.now ≡ length l.fresh.items = ap (λ (hs : List ActiveRequest). length hs) c.as_slice-held-items.ensures.value in
     let all : kept_of l held ++ take c.loop-held.held-index l.fresh.items ≡ held_after l held = served-whole l held c.loop-held.held-index (omega (arith, many, c.loop-held-test.false)) in

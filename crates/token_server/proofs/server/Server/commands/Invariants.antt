@@ -6,4 +6,4 @@ use Rattle.token_server.proofs.server.Server.commands.Given as goal
 
 abbrev pub invariant-loop-held : goal.invariant-loop-held
 invariant-loop-held l =
-    AreServed (drafted l.self l.draft) (held_after l.draft.lists l.self.active.held) (kept_of l.draft.lists l.self.active.held ++ take l.held-index l.draft.lists.fresh.items) l.told.items
+    AreServed (drafted l.self l.draft) (held_after l.draft l.self.active.held) (kept_of l.draft l.self.active.held ++ take l.held-index l.draft.fresh.items) l.told.items

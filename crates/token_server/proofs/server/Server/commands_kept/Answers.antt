@@ -5,7 +5,7 @@ use Rattle.std.proofs.lemmas.Result.{err_from_is_err_and}
 use Rattle.token_server.specs.declared.token_queue.active_request.ActiveRequest.{ActiveRequest}
 use Rattle.token_server.specs.rule.Actives.{waiting_for}
 use Rattle.token_server.proofs.ActiveLaws.{waiting_for-length}
-use Rattle.token_server.specs.declared.lists.Lists.{Lists}
+use Rattle.token_server.specs.declared.change.ServerEdit.{ServerEdit}
 use Rattle.token_server.specs.declared.sent_command.SentCommand.{SentCommand}
 use Rattle.token_server.specs.rule.State.{ServerState}
 use Rattle.token_server.specs.code.Obstacles.{is_idle}
@@ -21,7 +21,7 @@ pub serve_one-requires-clause-waits : goal.serve_one-requires-clause-waits
 serve_one-requires-clause-waits c =
     let i = c.loop-place.place in
     let s : ServerState = drafted c.args.self.now c.args.draft.now in
-    let l : Lists = c.args.draft.now.lists in
+    let l : ServerEdit = c.args.draft.now in
     let held : List ActiveRequest = c.args.self.now.active.held in
     let item : ActiveRequest = c.index-active-place.result in
     let w : ActiveRequest = record { request = item.request; at = c.awaited-at.result } in
@@ -37,7 +37,7 @@ pub returns-in_err-serve_one-clause-err : goal.returns-in_err-serve_one-clause-e
 returns-in_err-serve_one-clause-err c =
     let i = c.loop-place.place in
     let s : ServerState = drafted c.args.self.now c.args.draft.now in
-    let l : Lists = c.args.draft.now.lists in
+    let l : ServerEdit = c.args.draft.now in
     let held : List ActiveRequest = c.args.self.now.active.held in
     let item : ActiveRequest = c.index-active-place.result in
     let w : ActiveRequest = record { request = item.request; at = c.awaited-at.result } in
@@ -54,7 +54,7 @@ pub loop-place-preserved : goal.loop-place-preserved
 loop-place-preserved c =
     let i = c.loop-place.place in
     let s : ServerState = drafted c.args.self.now c.args.draft.now in
-    let l : Lists = c.args.draft.now.lists in
+    let l : ServerEdit = c.args.draft.now in
     let held : List ActiveRequest = c.args.self.now.active.held in
     let item : ActiveRequest = c.index-active-place.result in
     let w : ActiveRequest = record { request = item.request; at = c.awaited-at.result } in
@@ -71,7 +71,7 @@ pub loop-place-preserved-then-not-may_come : goal.loop-place-preserved-then-not-
 loop-place-preserved-then-not-may_come c =
     let i = c.loop-place.place in
     let s : ServerState = drafted c.args.self.now c.args.draft.now in
-    let l : Lists = c.args.draft.now.lists in
+    let l : ServerEdit = c.args.draft.now in
     let held : List ActiveRequest = c.args.self.now.active.held in
     let item : ActiveRequest = c.index-active-place.result in
     let w : ActiveRequest = record { request = item.request; at = c.awaited-at.result } in
@@ -89,7 +89,7 @@ pub loop-place-preserved-then-is_some : goal.loop-place-preserved-then-is_some
 loop-place-preserved-then-is_some c =
     let i = c.loop-place.place in
     let s : ServerState = drafted c.args.self.now c.args.draft.now in
-    let l : Lists = c.args.draft.now.lists in
+    let l : ServerEdit = c.args.draft.now in
     let held : List ActiveRequest = c.args.self.now.active.held in
     let item : ActiveRequest = c.index-active-place.result in
     let w : ActiveRequest = record { request = item.request; at = c.awaited-at.result } in
@@ -103,7 +103,7 @@ loop-place-preserved-then-is_some c =
 pub returns-then-none_may_come-clause-ok : goal.returns-then-none_may_come-clause-ok
 returns-then-none_may_come-clause-ok c =
     let s : ServerState = drafted c.args.self.now c.args.draft.now in
-    let l : Lists = c.args.draft.now.lists in
+    let l : ServerEdit = c.args.draft.now in
     let held : List ActiveRequest = c.args.self.now.active.held in
     let quiet : All (λ h. is_idle ((server_state c.args.self.now).rows h.at) ≡ false) held =
     subst (λ (p : ServerParts). All (λ h. is_idle ((server_state p).rows h.at) ≡ false) p.active.held) c.self.view_is c.self.invariant.ready.quiet in
@@ -116,7 +116,7 @@ pub returns-then-ats-place-clause-ok : goal.returns-then-ats-place-clause-ok
 returns-then-ats-place-clause-ok c =
     let i = c.loop-place.place in
     let s : ServerState = drafted c.args.self.now c.args.draft.now in
-    let l : Lists = c.args.draft.now.lists in
+    let l : ServerEdit = c.args.draft.now in
     let held : List ActiveRequest = c.args.self.now.active.held in
     let item : ActiveRequest = c.index-active-place.result in
     let w : ActiveRequest = record { request = item.request; at = c.awaited-at.result } in
@@ -135,7 +135,7 @@ returns-then-ats-place-clause-ok c =
 pub returns-clause-ok : goal.returns-clause-ok
 returns-clause-ok c =
     let s : ServerState = drafted c.args.self.now c.args.draft.now in
-    let l : Lists = c.args.draft.now.lists in
+    let l : ServerEdit = c.args.draft.now in
     let held : List ActiveRequest = c.args.self.now.active.held in
     let read : c.as_slice-active.result.now ≡ held = c.as_slice-active.ensures ∙ ap (λ (p : ServerParts). p.active.held) c.self.view_is in
     let many : length (waiting_for l.ats.items held) ≡ length c.as_slice-active.result.now = waiting_for-length l.ats.items held ∙ ap (λ (hs : List ActiveRequest). length hs) (sym read) in
@@ -145,5 +145,5 @@ returns-clause-ok c =
 pub loop-place-init : goal.loop-place-init
 loop-place-init c =
     let s : ServerState = drafted c.args.self.now c.args.draft.now in
-    let all : List ActiveRequest = held_after c.args.draft.now.lists c.args.self.now.active.held in
+    let all : List ActiveRequest = held_after c.args.draft.now c.args.self.now.active.held in
     subst (λ (ts : List SentCommand). AreServed s all [] ts) (sym c.new-told.ensures.items) (served-start s all c.requires.waits)

@@ -6,4 +6,4 @@ use Rattle.token_server.proofs.server.Server.commands_kept.Given as goal
 
 abbrev pub invariant-loop-place : goal.invariant-loop-place
 invariant-loop-place l =
-    AreServed (drafted l.self l.draft) (held_after l.draft.lists l.self.active.held) (kept l.draft.lists (take l.place (waiting_for l.draft.lists.ats.items l.self.active.held))) l.told.items
+    AreServed (drafted l.self l.draft) (held_after l.draft l.self.active.held) (kept l.draft (take l.place (waiting_for l.draft.ats.items l.self.active.held))) l.told.items

@@ -4,7 +4,7 @@ use Rattle.intervals.specs.rule.Bytes.{Range}
 use Rattle.token_server.specs.declared.token_queue.active_request.ActiveRequest.{ActiveRequest}
 use Rattle.token_server.specs.declared.token_queue.token_request.TokenRequest.{TokenRequest}
 use Rattle.token_server.specs.rule.Actives.{requests_of}
-use Rattle.token_server.specs.declared.lists.Lists.{Lists}
+use Rattle.token_server.specs.declared.change.ServerEdit.{ServerEdit}
 use Rattle.token_server.specs.rule.Serve.{narrowed}
 use Rattle.token_server.specs.rule.Parts.{ServerParts}
 use Rattle.token_server.specs.code.Sketches.{without, still_active}
@@ -29,7 +29,7 @@ cut_by_all-requires-clause-ends_within c = rw c.required-required.ensures.value 
 pub returns-clause-value : goal.returns-clause-value
 returns-clause-value c =
     let r : TokenRequest = c.args.request.now in
-    let lists : Lists = c.args.draft.now.lists in
+    let lists : ServerEdit = c.args.draft.now in
     let held : List ActiveRequest = c.args.self.now.active.held in
     let on : List TokenRequest = still_active lists.gone.ended (without lists.gone.dropped (requests_of held)) in
     let fresh : List TokenRequest = requests_of lists.fresh.items in

@@ -41,5 +41,5 @@ returns-clause-ok c =
     record {
       comes = drafted-serves p k d c.requires ∙ c.in_ok-told.ensures.ok ∙ sym (λ i. let a : Answer = Ok (given i, sent i) in a);
       awaited = c.requires.awaited ∙ sym (told-awaits p k d c.requires told (commands_told told) c.in_ok-told.ensures.ok) ∙ sym (ap awaits given);
-      ready = subst (λ (s : ServerState). IsReady s (held_after d.lists p.active.held)) (sym given) (told-ready p k d c.requires told (commands_told told) c.in_ok-told.ensures.ok c.in_ok-told.ensures.waits c.in_ok-told.ensures.quiet);
+      ready = subst (λ (s : ServerState). IsReady s (held_after d p.active.held)) (sym given) (told-ready p k d c.requires told (commands_told told) c.in_ok-told.ensures.ok c.in_ok-told.ensures.waits c.in_ok-told.ensures.quiet);
     }

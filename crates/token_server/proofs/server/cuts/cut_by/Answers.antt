@@ -5,7 +5,7 @@ use Rattle.intervals.specs.rule.Bytes.{Range}
 use Rattle.token_server.specs.declared.token_queue.active_request.ActiveRequest.{ActiveRequest}
 use Rattle.token_server.specs.declared.token_queue.token_request.TokenRequest.{TokenRequest}
 use Rattle.token_server.specs.rule.Actives.{requests_of}
-use Rattle.token_server.specs.declared.lists.Lists.{Lists}
+use Rattle.token_server.specs.declared.change.ServerEdit.{ServerEdit}
 use Rattle.token_server.specs.rule.Serve.{narrowed}
 use Rattle.token_server.specs.code.Told.{cut}
 use Rattle.token_server.specs.code.Turns.{kept}
@@ -30,7 +30,7 @@ pub loop-other-preserved : goal.loop-other-preserved
 loop-other-preserved c =
     let i = c.loop-other.other-index in
     let held : List ActiveRequest = c.args.held.now in
-    let lists : Lists = c.args.lists.now in
+    let lists : ServerEdit = c.args.draft.now in
     let item : ActiveRequest = c.other-item.result in
     let next : take (i + 1) held ≡ take i held ++ item ∷ [] = take_more held i item c.loop-other-test.true ∙ ap (λ (h : ActiveRequest). take i held ++ h ∷ []) (sym c.other-item.is) in
     let e = c.cut_by_one-span.ensures in
@@ -41,7 +41,7 @@ pub returns-then-eq-clause-value : goal.returns-then-eq-clause-value
 returns-then-eq-clause-value c =
     let i = c.loop-other.other-index in
     let held : List ActiveRequest = c.args.held.now in
-    let lists : Lists = c.args.lists.now in
+    let lists : ServerEdit = c.args.draft.now in
     let r : TokenRequest = c.args.request.now in
     left-least (requests_of (kept lists (take i held))) (requests_of (kept lists (drop i held))) r c.loop-other.span c.loop-other.invariant (one_span c.loop-other.span c.required-required.result _ c.eq.ensures c.if-eq.true ∙ c.required-required.ensures.value)
     ∙ ap (λ (rs : List TokenRequest). narrowed rs r) (sym (kept-parts lists held i))
@@ -55,7 +55,7 @@ returns-then-eq-clause-ends_after c = (left-bounds _ c.args.request.now c.loop-o
 pub returns-clause-value : goal.returns-clause-value
 returns-clause-value c =
     let held : List ActiveRequest = c.args.held.now in
-    let lists : Lists = c.args.lists.now in
+    let lists : ServerEdit = c.args.draft.now in
     let r : TokenRequest = c.args.request.now in
     c.loop-other.invariant.value
     ∙ ap (λ (hs : List ActiveRequest). narrowed (requests_of (kept lists hs)) r) (take_all c.loop-other.other-index held c.loop-other-test.false)

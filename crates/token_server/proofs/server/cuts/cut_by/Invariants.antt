@@ -5,4 +5,4 @@ use Rattle.token_server.proofs.CutLaws.{IsLeft}
 use Rattle.token_server.proofs.server.cuts.cut_by.Given as goal
 
 abbrev pub invariant-loop-other : goal.invariant-loop-other
-invariant-loop-other l = IsLeft (requests_of (kept l.lists (take l.other-index l.held))) l.request l.span
+invariant-loop-other l = IsLeft (requests_of (kept l.draft (take l.other-index l.held))) l.request l.span

@@ -9,8 +9,8 @@ use Rattle.token_server.proofs.token_queue.line.Line.forget.Goals as goal
 
 pub loop-place-init : goal.loop-place-init
 loop-place-init c =
-    subst (λ (slots : List (Option TokenRequest)). IsForgotten c.args.node c.args.incarnation c.args.self.now (length slots) c.self.inside.slots c.self.inside.front c.self.inside.front) (sym c.as_slice-place-end.ensures)
-    (IsForgotten-start c.args.node c.args.incarnation c.args.self.now c.self.inside.slots c.self.inside.front c.self.invariant c.self.view_is)
+    subst (λ (slots : List (Option TokenRequest)). IsForgotten c.in-Some.node c.in-Some.incarnation c.args.self.now (length slots) c.self.inside.slots c.self.inside.front c.self.inside.front) (sym c.as_slice-place-end.ensures)
+    (IsForgotten-start c.in-Some.node c.in-Some.incarnation c.args.self.now c.self.inside.slots c.self.inside.front c.self.invariant c.self.view_is)
 
 -- a read at a place within the slots gives that slot
 read : (shown slots : List (Option TokenRequest)) (place : ℕ) (d x : Option TokenRequest) → shown ≡ slots → place < length slots → get_or shown place d ≡ x → request_at slots place ≡ x
@@ -18,8 +18,8 @@ read shown slots place d x same low is = get_or_default slots place None d low �
 
 pub loop-place-preserved : goal.loop-place-preserved
 loop-place-preserved c =
-    let node = c.args.node in
-    let incarnation = c.args.incarnation in
+    let node = c.in-Some.node in
+    let incarnation = c.in-Some.incarnation in
     let count = length c.as_slice-place-end.result.now in
     let now = c.loop-place.self-inside.slots in
     let front = c.loop-place.self-inside.front in
