@@ -94,7 +94,7 @@ impl NodeEdit {
             calls: CallsEdit::Same,
             freed: Items::new(alloc),
         };
-        Box::new(alloc, edit)
+        Ok(Box::new(alloc, edit)?)
     }
 
     /// No change.
