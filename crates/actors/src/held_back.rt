@@ -1,12 +1,12 @@
 //! The messages of an actor that its weather holds back.
-use messages::message::Message;
+use messages::shared_message::SharedMessage;
 use std::alloc::{AllocError, Global};
 
 // A message, and the number of ticks after which it goes.
 #[derive(Drop)]
 struct DelayedMessage {
     ticks: u32,
-    message: Message,
+    message: SharedMessage,
 }
 
 /// The messages of an actor that its weather holds back, in the order in which they were sent.
@@ -23,14 +23,9 @@ impl HeldBack {
         }
     }
 
-    /// Holds a copy of the message back for that many ticks.
-    pub(crate) fn hold(
-        &mut self,
-        alloc: Global,
-        ticks: u32,
-        message: &Message,
-    ) -> Result<(), AllocError> {
-        let message = message.copy(alloc)?;
+    /// Holds the message, shared, back for that many ticks.
+    pub(crate) fn hold(&mut self, ticks: u32, message: &SharedMessage) -> Result<(), AllocError> {
+        let message = message.share()?;
         self.messages.push(DelayedMessage { ticks, message })?;
         Ok(())
     }
@@ -51,7 +46,7 @@ impl HeldBack {
     }
 
     /// Takes out the first message whose ticks have passed, if there is one.
-    pub(crate) fn take_due(&mut self) -> Option<Message> {
+    pub(crate) fn take_due(&mut self) -> Option<SharedMessage> {
         let index = self.messages.iter().position(|held| held.ticks == 0)?;
         let DelayedMessage { message, .. } = self.messages.remove(index);
         Some(message)

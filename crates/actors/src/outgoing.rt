@@ -3,7 +3,7 @@ use crate::held_back::HeldBack;
 use crate::shared::Shared;
 use crate::weather::{Fate, Weather};
 use book::stamp::Stamp;
-use messages::message::Message;
+use messages::shared_message::SharedMessage;
 use std::alloc::Global;
 use std::sync::Wait;
 use trail::name::Name;
@@ -42,8 +42,13 @@ impl<W: Weather> Outgoing<W> {
     }
 
     // Sends a message as the weather decides. A message for which there is no memory is lost.
-    fn send<J: Name, G, R: Wait>(&mut self, rt: &R, shared: &Shared<'_, J, G>, message: &Message) {
-        match self.weather.fate(message) {
+    fn send<J: Name, G, R: Wait>(
+        &mut self,
+        rt: &R,
+        shared: &Shared<'_, J, G>,
+        message: &SharedMessage,
+    ) {
+        match self.weather.fate(message.get()) {
             Fate::Pass | Fate::Hold(0) => shared.send(rt, message),
             Fate::Drop => {}
             Fate::Twice => {
@@ -51,7 +56,7 @@ impl<W: Weather> Outgoing<W> {
                 shared.send(rt, message);
             }
             Fate::Hold(ticks) => {
-                let _ = self.held.hold(shared.alloc, ticks, message);
+                let _ = self.held.hold(ticks, message);
             }
         }
     }

@@ -8,7 +8,6 @@ use book::book::Book;
 use book::seat::Seat;
 use crossbeam_channel::{SendError, Sender};
 use messages::actor::Actor;
-use messages::message::Message;
 use messages::shared_message::SharedMessage;
 use std::alloc::Global;
 use std::sync::atomic::{AtomicU64, Ordering};
@@ -95,24 +94,20 @@ impl<J: Name, G> Shared<'_, J, G> {
         self.desks.get(index_of(self.nodes, actor)?)
     }
 
-    /// Puts a copy of the message into the mailbox of its addressee, as `deliver` does.
-    pub(crate) fn send<R: Wait>(&self, rt: &R, message: &Message) {
-        match message.copy(self.alloc) {
-            Ok(copy) => self.deliver(rt, copy),
+    /// Puts the message, shared, into the mailbox of its addressee, as `deliver` does.
+    pub(crate) fn send<R: Wait>(&self, rt: &R, message: &SharedMessage) {
+        match message.share() {
+            Ok(shared) => self.deliver(rt, shared),
             Err(_) => self.halt.note_refused(),
         }
     }
 
     /// Puts the message into the mailbox of its addressee. A message for which there is no memory is lost.
-    pub(crate) fn deliver<R: Wait>(&self, rt: &R, message: Message) {
-        let Some(mailbox) = self.mailbox(message.addressee()) else {
+    pub(crate) fn deliver<R: Wait>(&self, rt: &R, message: SharedMessage) {
+        let Some(mailbox) = self.mailbox(message.get().addressee()) else {
             return;
         };
-        let Ok(shared) = SharedMessage::new(self.alloc, message) else {
-            self.halt.note_refused();
-            return;
-        };
-        if let Err(SendError::OutOfMemory(_)) = mailbox.letters.send(rt, Letter::Deliver(shared)) {
+        if let Err(SendError::OutOfMemory(_)) = mailbox.letters.send(rt, Letter::Deliver(message)) {
             self.halt.note_refused();
         }
     }

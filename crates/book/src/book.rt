@@ -38,9 +38,9 @@ use cluster_core::world::World;
 use messages::actor::Actor;
 use messages::entry::Entry;
 use messages::event::{Event, MemberEvent};
-use messages::items::Items;
 use messages::outcome::Outcome;
 use messages::refusal::Refused;
+use messages::sends::Sends;
 use messages::shape::Shape;
 use node_core::node::Node;
 use std::alloc::{AllocError, Global};
@@ -232,7 +232,7 @@ impl<J: Name> Book<J> {
         let event = MemberEvent::Declare { node };
         self.run.take(alloc, Event::Member(event))?;
         self.spots.forget(Actor::Node(node));
-        let outcome = Outcome::sending(Items::new(alloc));
+        let outcome = Outcome::sending(Sends::nothing());
         let position = self.run.len();
         Ok(Stamp::new(position, Event::Member(event), outcome, 0))
     }
@@ -273,7 +273,7 @@ impl<J: Name> Book<J> {
         let event = MemberEvent::FailServer { file };
         self.run.take(alloc, Event::Member(event))?;
         self.spots.forget(Actor::Server(file));
-        let outcome = Outcome::sending(Items::new(alloc));
+        let outcome = Outcome::sending(Sends::nothing());
         let position = self.run.len();
         Ok(Stamp::new(position, Event::Member(event), outcome, 0))
     }

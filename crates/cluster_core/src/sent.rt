@@ -5,7 +5,6 @@ ghost use Rattle.cluster_core.specs.code.SentIndexes.{Knows};
 
 use crate::sent_index::{SentIndex, is_this};
 use messages::message::Message;
-use messages::sends::Sends;
 use messages::shared_message::SharedMessage;
 use std::alloc::{AllocError, Global};
 use std::marker::Model;
@@ -92,21 +91,19 @@ impl Sent {
         self.index.as_ref()?.find(self.messages.as_slice(), message)
     }
 
-    /// Appends copies of these messages, in their order, and gives them as well: both are shared.
+    /// Appends these messages, shared, in their order.
     ///
     /// # Errors
-    /// `AllocError` where a request for memory was refused. The list is then as it was.
-    pub fn extend(&mut self, alloc: Global, messages: &[Message]) -> Result<Sends, AllocError>
+    /// `AllocError` where a request for memory was refused, or a message is shared as often as can be counted. The
+    /// list is then as it was.
+    pub fn extend(&mut self, messages: &[SharedMessage]) -> Result<(), AllocError>
         ensures ok { OnOk result (self.new ≡ self.old ++ messages.now) }
-        ensures sends { IfOk result (λ sends. sends ≡ messages.now) }
         ensures err { OnErr result (self.new ≡ self.old) }
     {
-        let sends = Sends::copies(alloc, messages)?;
         match &mut self.index {
-            Some(index) => add_noted(&mut self.messages, index, sends.as_slice())?,
-            None => add_shares(&mut self.messages, sends.as_slice())?,
+            Some(index) => add_noted(&mut self.messages, index, messages),
+            None => add_shares(&mut self.messages, messages),
         }
-        Ok(sends)
     }
 }
 

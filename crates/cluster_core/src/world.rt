@@ -24,12 +24,11 @@ use crate::world::world_change::WorldChange;
 use members::members::Members;
 use messages::entry::Entry;
 use messages::event::{Event, MemberEvent};
-use messages::items::Items;
-use messages::kept_outcome::KeptOutcome;
 use messages::kept_reply::KeptReply;
 use messages::message::Message;
 use messages::outcome::Outcome;
 use messages::refusal::Refused;
+use messages::sends::Sends;
 use messages::shape::Shape;
 use messages::shared_message::SharedMessage;
 use node_core::change::NodeChange;
@@ -216,11 +215,11 @@ impl World {
         ensures unchanged { OnErr result (self.new ≡ self.old) }
     {
         let reply = kept_reply(alloc, &change.outcome)?;
-        let sends = self.sent.extend(alloc, change.outcome.sends.as_slice())?;
+        self.sent.extend(change.outcome.sends.as_slice())?;
         let stepping = &mut self.nodes[node as usize - 1];
         let outcome = stepping.apply(change);
         self.length += 1;
-        Ok(Entry::at_node(event, incarnation, outcome, KeptOutcome { reply, sends }))
+        Ok(Entry::at_node(event, incarnation, outcome, reply))
     }
 
     // Makes the planned step of the token server. Gives the entry.
@@ -238,15 +237,15 @@ impl World {
         ensures unchanged { OnErr result (self.new ≡ self.old) }
     {
         let reply = kept_reply(alloc, &change.outcome)?;
-        let sends = self.sent.extend(alloc, change.outcome.sends.as_slice())?;
+        self.sent.extend(change.outcome.sends.as_slice())?;
         let server = &mut self.servers[file as usize - 1];
         let outcome = server.apply(change);
         self.length += 1;
-        Ok(Entry::new(event, outcome, KeptOutcome { reply, sends }))
+        Ok(Entry::new(event, outcome, reply))
     }
 
     // Declares the node failed. Gives the entry.
-    fn declare(&mut self, alloc: Global, node: u8) -> Entry
+    fn declare(&mut self, node: u8) -> Entry
         requires room { self.old.length < journal_limit }
         requires node { is_within self.old.shape.nodes node ≡ true }
         requires alive { (world_state self.old).alive node ≡ true }
@@ -256,14 +255,13 @@ impl World {
             unreachable!()
         };
         self.length += 1;
-        let outcome = Outcome::sending(Items::new(alloc));
-        let kept = KeptOutcome::nothing();
+        let outcome = Outcome::sending(Sends::nothing());
         let event = Event::Member(MemberEvent::Declare { node });
-        Entry::at_node(event, incarnation, outcome, kept)
+        Entry::at_node(event, incarnation, outcome, KeptReply::nothing())
     }
 
     // Restarts the node, in this state. Gives the entry.
-    fn restart(&mut self, alloc: Global, node: u8, begun: Box<Node>) -> Entry
+    fn restart(&mut self, node: u8, begun: Box<Node>) -> Entry
         requires room { self.old.length < journal_limit }
         requires made { IsRestart self.old node begun.value }
         ensures { restart_rule (world_state self.old) node ≡ Ok (world_state self.new, result) }
@@ -273,10 +271,9 @@ impl World {
         };
         self.nodes[node as usize - 1] = Box::into_inner(begun);
         self.length += 1;
-        let outcome = Outcome::sending(Items::new(alloc));
-        let kept = KeptOutcome::nothing();
+        let outcome = Outcome::sending(Sends::nothing());
         let event = Event::Member(MemberEvent::Restart { node });
-        Entry::at_node(event, incarnation, outcome, kept)
+        Entry::at_node(event, incarnation, outcome, KeptReply::nothing())
     }
 
     /// Makes the planned change. Only the messages that it sends, which go to the list of those sent, may take
@@ -304,10 +301,10 @@ impl World {
             WorldChange::OfServer { file, change } => self.change_server(
                 alloc, event, file, change,
             ),
-            WorldChange::Declared { node } => Ok(self.declare(alloc, node)),
-            WorldChange::Restarted { node, begun } => Ok(self.restart(alloc, node, begun)),
-            WorldChange::Failed { file } => Ok(self.fail(alloc, file)),
-            WorldChange::Started { file, begun, sends } => self.start(alloc, file, begun, sends),
+            WorldChange::Declared { node } => Ok(self.declare(node)),
+            WorldChange::Restarted { node, begun } => Ok(self.restart(node, begun)),
+            WorldChange::Failed { file } => Ok(self.fail(file)),
+            WorldChange::Started { file, begun, sends } => self.start(file, begun, sends),
         }
     }
 

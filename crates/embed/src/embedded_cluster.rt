@@ -7,8 +7,8 @@ use crate::wire::line_of;
 use anyhow::bail;
 use members::members::Members;
 use messages::actor::Actor;
-use messages::items::Items;
 use messages::message::Message;
+use messages::sends::Sends;
 use messages::shape::Shape;
 use model::op::Op;
 use model::policy::Policy;
@@ -130,13 +130,13 @@ impl EmbeddedCluster {
             return Ok(false);
         };
         for message in sends.as_slice() {
-            self.post(rt, message)?;
+            self.post(rt, message.get())?;
         }
         Ok(true)
     }
 
     // The first that has a letter reads it: the nodes by their numbers, and then the server. What it sends.
-    fn read(&mut self, rt: &HostRuntime) -> anyhow::Result<Option<Items<Message>>> {
+    fn read(&mut self, rt: &HostRuntime) -> anyhow::Result<Option<Sends>> {
         for seat in self.seats.iter_mut() {
             if let Some(sends) = seat.read(rt)? {
                 return Ok(Some(sends));

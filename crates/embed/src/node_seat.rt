@@ -4,9 +4,9 @@ use crate::pace::Pace;
 use crate::shown::show_span;
 use crate::wire::message_in;
 use messages::event::NodeInput;
-use messages::items::Items;
 use messages::message::Message;
 use messages::outcome::Outcome;
+use messages::sends::Sends;
 use model::call::CallId;
 use model::reply::Reply;
 use node_core::event::NodeEvent;
@@ -55,7 +55,7 @@ impl NodeSeat {
     }
 
     /// The node reads its first letter, if it has one. What it sends.
-    pub fn read(&mut self, rt: &HostRuntime) -> anyhow::Result<Option<Items<Message>>> {
+    pub fn read(&mut self, rt: &HostRuntime) -> anyhow::Result<Option<Sends>> {
         let Some(node) = &mut self.node else {
             return Ok(None);
         };
@@ -83,7 +83,7 @@ fn take(
     node: &mut Node,
     pace: &mut Pace,
     letter: NodeLetter,
-) -> anyhow::Result<Items<Message>> {
+) -> anyhow::Result<Sends> {
     match letter {
         NodeLetter::Call { pid, op } => {
             step(rt, node, &NodeEvent::Input(NodeInput::Call { pid, op }))
@@ -94,27 +94,27 @@ fn take(
 }
 
 // Lets the event happen, and prints the reply if it answers a call. What is sent.
-fn step(rt: &HostRuntime, node: &mut Node, event: &NodeEvent) -> anyhow::Result<Items<Message>> {
+fn step(rt: &HostRuntime, node: &mut Node, event: &NodeEvent) -> anyhow::Result<Sends> {
     let change = node.plan(rt.alloc(), event)?;
     told(rt, node.apply(change))
 }
 
 // The message of the line comes. What is sent. A line of no message is lost.
-fn deliver(rt: &HostRuntime, node: &mut Node, line: &str) -> anyhow::Result<Items<Message>> {
+fn deliver(rt: &HostRuntime, node: &mut Node, line: &str) -> anyhow::Result<Sends> {
     match message_in(rt.alloc(), line)? {
         Some(message) => receive(rt, node, &message),
-        None => Ok(Items::new(rt.alloc())),
+        None => Ok(Sends::nothing()),
     }
 }
 
 // The message comes, and the reply is printed if it answers a call. What is sent.
-fn receive(rt: &HostRuntime, node: &mut Node, message: &Message) -> anyhow::Result<Items<Message>> {
+fn receive(rt: &HostRuntime, node: &mut Node, message: &Message) -> anyhow::Result<Sends> {
     let change = node.plan_delivery(rt.alloc(), message)?;
     told(rt, node.apply(change))
 }
 
 // Prints the reply if a call is answered. What is sent.
-fn told(rt: &HostRuntime, outcome: Outcome) -> anyhow::Result<Items<Message>> {
+fn told(rt: &HostRuntime, outcome: Outcome) -> anyhow::Result<Sends> {
     let Outcome { reply, sends, .. } = outcome;
     if let Some((call, reply)) = reply {
         show_reply(rt, call, reply)?;
@@ -132,8 +132,8 @@ fn show_reply(rt: &HostRuntime, call: CallId, reply: Reply) -> anyhow::Result<()
 }
 
 // A tick goes by: when it is time each open call is tried again. What is sent.
-fn tick(rt: &HostRuntime, node: &mut Node, pace: &mut Pace) -> anyhow::Result<Items<Message>> {
-    let mut sends = Items::new(rt.alloc());
+fn tick(rt: &HostRuntime, node: &mut Node, pace: &mut Pace) -> anyhow::Result<Sends> {
+    let mut sends = Sends::nothing();
     if node.open_calls().is_empty() {
         *pace = Pace::begun();
     } else if pace.tick() {
@@ -148,16 +148,16 @@ fn retry_all(
     rt: &HostRuntime,
     node: &mut Node,
     calls: &[OpenCall],
-    sends: &mut Items<Message>,
+    sends: &mut Sends,
 ) -> anyhow::Result<()> {
     for call in calls {
-        sends.append(retry(rt, node, call)?)?;
+        sends.append(rt.alloc(), retry(rt, node, call)?)?;
     }
     Ok(())
 }
 
 // Tries an open call again. What is sent.
-fn retry(rt: &HostRuntime, node: &mut Node, call: &OpenCall) -> anyhow::Result<Items<Message>> {
+fn retry(rt: &HostRuntime, node: &mut Node, call: &OpenCall) -> anyhow::Result<Sends> {
     let by = node.host().node;
     println!(rt; "node {by} tries call {} again", call.number)?;
     let retry = NodeInput::Retry { pid: call.pid };

@@ -6,8 +6,8 @@ use crate::shown::show_span;
 use crate::wire::message_in;
 use intervals::span::Span;
 use messages::event::ServerInput;
-use messages::items::Items;
 use messages::message::Message;
+use messages::sends::Sends;
 use model::level::Level;
 use std::alloc::{AllocError, Global};
 use std::collections::VecDeque;
@@ -42,7 +42,7 @@ impl Office {
     }
 
     /// The server reads its first letter, if it has one. What it sends.
-    pub fn read(&mut self, rt: &HostRuntime) -> anyhow::Result<Option<Items<Message>>> {
+    pub fn read(&mut self, rt: &HostRuntime) -> anyhow::Result<Option<Sends>> {
         match self.inbox.pop_front() {
             Some(letter) => Ok(Some(self.take(rt, letter)?)),
             None => Ok(None),
@@ -50,7 +50,7 @@ impl Office {
     }
 
     // The server takes a letter. What it sends.
-    fn take(&mut self, rt: &HostRuntime, letter: ServerLetter) -> anyhow::Result<Items<Message>> {
+    fn take(&mut self, rt: &HostRuntime, letter: ServerLetter) -> anyhow::Result<Sends> {
         match letter {
             ServerLetter::Declared { node, incarnation } => {
                 let news = ServerInput::Learn { node, incarnation };
@@ -62,22 +62,22 @@ impl Office {
     }
 
     // The server learns of a declaration. What it sends.
-    fn learn(&mut self, alloc: Global, event: &ServerEvent) -> anyhow::Result<Items<Message>> {
+    fn learn(&mut self, alloc: Global, event: &ServerEvent) -> anyhow::Result<Sends> {
         self.begin(false);
         let change = self.server.plan(alloc, event)?;
         Ok(self.server.apply(change).sends)
     }
 
     // The message of the line comes. What the server sends. A line of no message is lost.
-    fn deliver(&mut self, alloc: Global, line: &str) -> anyhow::Result<Items<Message>> {
+    fn deliver(&mut self, alloc: Global, line: &str) -> anyhow::Result<Sends> {
         match message_in(alloc, line)? {
             Some(message) => self.receive(alloc, &message),
-            None => Ok(Items::new(alloc)),
+            None => Ok(Sends::nothing()),
         }
     }
 
     // The message comes. What the server sends.
-    fn receive(&mut self, alloc: Global, message: &Message) -> anyhow::Result<Items<Message>> {
+    fn receive(&mut self, alloc: Global, message: &Message) -> anyhow::Result<Sends> {
         self.begin(is_answer(message));
         let change = self.server.plan_delivery(alloc, message)?;
         Ok(self.server.apply(change).sends)
@@ -91,7 +91,7 @@ impl Office {
     }
 
     // A tick goes by: when it is time the server sends again what has no answer. If there is nothing, it rests.
-    fn tick(&mut self, rt: &HostRuntime) -> anyhow::Result<Items<Message>> {
+    fn tick(&mut self, rt: &HostRuntime) -> anyhow::Result<Sends> {
         if is_due(&mut self.pace) {
             if let Some(sends) = self.resend(rt.alloc())? {
                 println!(rt; "the server sends again")?;
@@ -99,11 +99,11 @@ impl Office {
             }
             self.pace = None;
         }
-        Ok(Items::new(rt.alloc()))
+        Ok(Sends::nothing())
     }
 
     // What the server sends again, if there is any.
-    fn resend(&mut self, alloc: Global) -> anyhow::Result<Option<Items<Message>>> {
+    fn resend(&mut self, alloc: Global) -> anyhow::Result<Option<Sends>> {
         let change = self
             .server
             .plan(alloc, &ServerEvent::Input(ServerInput::Resend))?;

@@ -15,8 +15,6 @@ use crate::named_entry::NamedEntry;
 use crate::sink::Sink;
 use message_text::written_message::WrittenMessage;
 use messages::entry::Entry;
-use messages::items::Items;
-use messages::kept_outcome::KeptOutcome;
 use messages::kept_reply::KeptReply;
 use messages::outcome::Outcome;
 use messages::sends::Sends;
@@ -70,7 +68,7 @@ impl<'a> Builder<'a> {
                 self.last = Some(NamedEntry {
                     event,
                     reply: None,
-                    sends: Items::new(alloc),
+                    sends: Sends::nothing(),
                 });
                 Ok(())
             }
@@ -118,7 +116,7 @@ fn sending<'a>(
     let Some(mut entry) = named else {
         return Ok(None);
     };
-    entry.sends.push(message.message(alloc)?)?;
+    entry.sends.push(alloc, message.message(alloc)?)?;
     Ok(Some(entry))
 }
 
@@ -134,9 +132,6 @@ pub fn entry_of(alloc: Global, named: NamedEntry<'_>) -> Result<Entry, AllocErro
         reply: named.reply,
         sends: named.sends,
     };
-    let kept = KeptOutcome {
-        reply: KeptReply::new(alloc, outcome.reply)?,
-        sends: Sends::copies(alloc, outcome.sends.as_slice())?,
-    };
-    Ok(Entry::at_node(event.event(alloc)?, incarnation, outcome, kept))
+    let reply = KeptReply::new(alloc, outcome.reply)?;
+    Ok(Entry::at_node(event.event(alloc)?, incarnation, outcome, reply))
 }

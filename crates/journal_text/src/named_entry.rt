@@ -1,7 +1,6 @@
 //! Entries whose events have their names in them.
 use crate::named_event::NamedEvent;
-use messages::items::Items;
-use messages::message::Message;
+use messages::sends::Sends;
 use model::call::CallId;
 use model::reply::Reply;
 
@@ -10,5 +9,5 @@ use model::reply::Reply;
 pub struct NamedEntry<'a> {
     pub event: NamedEvent<'a>,
     pub reply: Option<(CallId, Reply)>,
-    pub sends: Items<Message>,
+    pub sends: Sends,
 }

@@ -6,8 +6,7 @@ ghost use Rattle.log_text.specs.rule.Readings.{interval_of};
 use merges::logged::Interval;
 use messages::entry::Entry;
 use messages::event::MemberEvent;
-use messages::items::Items;
-use messages::message::Message;
+use messages::sends::Sends;
 
 /// A declaration or a start, with the incarnation or the epoch that its line names, and the messages that the actor sends
 /// when it begins by it.
@@ -15,7 +14,7 @@ use messages::message::Message;
 pub struct LogChange {
     pub event: MemberEvent,
     pub incarnation: u16,
-    pub sends: Items<Message>,
+    pub sends: Sends,
 }
 
 /// An entry, with the tag of the call that it answers, where that had one.

@@ -26,8 +26,8 @@ use message_text::names::{HostName, server_of};
 use message_text::numbers::{FileField, NodeField};
 use messages::actor::Actor;
 use messages::event::MemberEvent;
-use messages::items::Items;
 use messages::message::Message;
+use messages::sends::Sends;
 use messages::version::Version;
 use model::call::CallId;
 use model::host::Host;
@@ -187,12 +187,12 @@ impl<'a> LineReader<'a> {
     }
 
     // The lines that come next and say that messages are sent.
-    fn sends(&mut self, alloc: Global) -> Result<Items<Message>, AllocError>
+    fn sends(&mut self, alloc: Global) -> Result<Sends, AllocError>
         ensures { IfOk result (λ sends. self.old.text.now ≡ to_lines sends ++ self.new.text.now) }
     {
-        let mut sends = Items::new(alloc);
+        let mut sends = Sends::nothing();
         while let Some(message) = self.send(alloc)? {
-            sends.push(message)?;
+            sends.push(alloc, message)?;
         }
         Ok(sends)
     }

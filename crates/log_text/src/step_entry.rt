@@ -6,10 +6,8 @@ ghost use Rattle.journal_text.specs.rule.Readings.{entry_in};
 
 use journal_text::named_entry::NamedEntry;
 use messages::entry::Entry;
-use messages::kept_outcome::KeptOutcome;
 use messages::kept_reply::KeptReply;
 use messages::outcome::Outcome;
-use messages::sends::Sends;
 use std::alloc::{AllocError, Global};
 
 /// The entry, whose event loses the names in it.
@@ -27,9 +25,6 @@ pub(crate) fn entry_of(alloc: Global, named: NamedEntry<'_>) -> Result<Entry, Al
         reply: named.reply,
         sends: named.sends,
     };
-    let kept = KeptOutcome {
-        reply: KeptReply::new(alloc, outcome.reply)?,
-        sends: Sends::copies(alloc, outcome.sends.as_slice())?,
-    };
-    Ok(Entry::at_node(event.event(alloc)?, incarnation, outcome, kept))
+    let reply = KeptReply::new(alloc, outcome.reply)?;
+    Ok(Entry::at_node(event.event(alloc)?, incarnation, outcome, reply))
 }

@@ -4,6 +4,7 @@ ghost use Rattle.messages.specs.code.Entries.{NamesItsCall, NamesItsIncarnation,
 
 use crate::event::{Event, NodeInput};
 use crate::kept_outcome::KeptOutcome;
+use crate::kept_reply::KeptReply;
 use crate::outcome::Outcome;
 use crate::shared_message::SharedMessage;
 use model::call::CallId;
@@ -47,25 +48,23 @@ fn kept_name(incarnation: u16, call: Option<CallId>) -> (u16, u32)
 }
 
 impl Entry {
-    /// The entry of an event that names no incarnation, with its outcome; `kept` is what the entry
-    /// keeps of the outcome.
-    pub fn new(event: Event, outcome: Outcome, kept: KeptOutcome) -> Entry
+    /// The entry of an event that names no incarnation, with its outcome; `reply` is the outcome's
+    /// reply as the entry keeps it.
+    pub fn new(event: Event, outcome: Outcome, reply: KeptReply) -> Entry
         requires named { NamesItsCall event outcome.call }
         requires no_incarnation { NamesItsIncarnation event 0 }
-        requires reply { kept.reply ≡ outcome.reply }
-        requires sends { kept.sends ≡ outcome.sends }
+        requires reply { reply ≡ outcome.reply }
         ensures { result ≡ entry_of event 0 outcome }
     {
-        Entry::at_node(event, 0, outcome, kept)
+        Entry::at_node(event, 0, outcome, reply)
     }
 
     /// The entry of an event with its outcome, and the incarnation or epoch that it names, from 1,
-    /// else 0; `kept` is what the entry keeps of the outcome.
-    pub fn at_node(event: Event, incarnation: u16, outcome: Outcome, kept: KeptOutcome) -> Entry
+    /// else 0; `reply` is the outcome's reply as the entry keeps it.
+    pub fn at_node(event: Event, incarnation: u16, outcome: Outcome, reply: KeptReply) -> Entry
         requires named { NamesItsCall event outcome.call }
         requires incarnated { NamesItsIncarnation event incarnation }
-        requires reply { kept.reply ≡ outcome.reply }
-        requires sends { kept.sends ≡ outcome.sends }
+        requires reply { reply ≡ outcome.reply }
         ensures { result ≡ entry_of event incarnation outcome }
     {
         let (incarnation, number) = kept_name(incarnation, outcome.call);
@@ -73,7 +72,10 @@ impl Entry {
             event,
             incarnation,
             number,
-            outcome: kept,
+            outcome: KeptOutcome {
+                reply,
+                sends: outcome.sends.fitted(),
+            },
         }
     }
 

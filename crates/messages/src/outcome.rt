@@ -2,8 +2,7 @@
 ghost use Rattle.std.specs.Prelude.{◌≡◌};
 ghost use Rattle.messages.specs.rule.Messages.{sending};
 
-use crate::items::Items;
-use crate::message::Message;
+use crate::sends::Sends;
 use model::call::CallId;
 use model::reply::Reply;
 
@@ -13,12 +12,12 @@ use model::reply::Reply;
 pub struct Outcome {
     pub call: Option<CallId>,
     pub reply: Option<(CallId, Reply)>,
-    pub sends: Items<Message>,
+    pub sends: Sends,
 }
 
 impl Outcome {
     /// The outcome that sends these messages, names no call and answers none.
-    pub fn sending(sends: Items<Message>) -> Outcome
+    pub fn sending(sends: Sends) -> Outcome
         ensures { result ≡ sending sends }
     {
         Outcome {

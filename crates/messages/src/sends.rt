@@ -1,7 +1,7 @@
-//! The messages that an entry of the journal sends.
+//! The messages that a step sends.
 //!
 //! Each function here that can fail errs with `AllocError`, where a request for memory was refused.
-ghost use Rattle.std.specs.Prelude.{◌≡◌, ◌↔◌, IsTrue, [], ◌∷◌, IfOk};
+ghost use Rattle.std.specs.Prelude.{◌≡◌, ◌↔◌, IsTrue, [], ◌∷◌, ◌++◌, IfOk, OnOk, length};
 ghost use Rattle.messages.specs.code.KeptOutcomes.{messages_of};
 
 use crate::items::Items;
@@ -11,7 +11,7 @@ use std::alloc::{AllocError, Global};
 use std::array;
 use std::marker::Model;
 
-// Most entries send no message, or one.
+// Most steps send no message, or one.
 #[derive(Drop)]
 enum CompactSends {
     Nothing,
@@ -19,8 +19,8 @@ enum CompactSends {
     Many(Box<Items<SharedMessage>>),
 }
 
-/// The messages that an entry sends, in the order in which the rules name them. Contracts see their
-/// list.
+/// The messages that a step sends, in the order in which the rules name them, each stored once for
+/// the step's outcome, its entry and the list of those sent. Contracts see their list.
 #[derive(Drop)]
 pub struct Sends {
     kept: CompactSends,
@@ -36,22 +36,32 @@ impl Model for Sends {
     ghost view = { λ s. messages_of s.kept };
 }
 
-// A copy of the message, with one owner.
-fn shared(alloc: Global, message: &Message) -> Result<SharedMessage, AllocError>
-    ensures { IfOk result (λ shared. shared ≡ message.now) }
+// The two messages, in this order.
+fn pair(
+    alloc: Global,
+    first: SharedMessage,
+    second: SharedMessage,
+) -> Result<CompactSends, AllocError>
+    ensures { IfOk result (λ kept. messages_of kept ≡ first ∷ second ∷ []) }
 {
-    SharedMessage::new(alloc, message.copy(alloc)?)
+    let mut items = Items::one(alloc, first)?;
+    items.push(second)?;
+    Ok(CompactSends::Many(Box::new(alloc, items)?))
 }
 
-// Copies of the messages, with one owner each.
-fn all_shared(alloc: Global, messages: &[Message]) -> Result<Items<SharedMessage>, AllocError>
-    ensures { IfOk result (λ items. items ≡ messages.now) }
+// These messages, and one more behind them.
+fn more(alloc: Global, kept: CompactSends, last: SharedMessage) -> Result<CompactSends, AllocError>
+    ensures { IfOk result (λ more. messages_of more ≡ messages_of kept ++ last ∷ []) }
 {
-    let mut items = Items::new(alloc);
-    for message in messages {
-        items.push(shared(alloc, message)?)?;
+    match kept {
+        CompactSends::Nothing => Ok(CompactSends::One(last)),
+        CompactSends::One(first) => pair(alloc, first, last),
+        CompactSends::Many(items) => {
+            let mut items = items;
+            items.push(last)?;
+            Ok(CompactSends::Many(items))
+        }
     }
-    Ok(items)
 }
 
 impl Sends {
@@ -64,16 +74,74 @@ impl Sends {
         }
     }
 
-    /// Copies of these messages.
-    pub fn copies(alloc: Global, messages: &[Message]) -> Result<Sends, AllocError>
-        ensures { IfOk result (λ sends. sends ≡ messages.now) }
+    /// The one message.
+    pub fn one(alloc: Global, message: Message) -> Result<Sends, AllocError>
+        ensures { IfOk result (λ sends. sends ≡ message ∷ []) }
     {
-        let kept = match messages {
-            [] => CompactSends::Nothing,
-            [message] => CompactSends::One(shared(alloc, message)?),
-            _ => CompactSends::Many(Box::new(alloc, all_shared(alloc, messages)?.fitted())?),
-        };
-        Ok(Sends { kept })
+        Ok(Sends {
+            kept: CompactSends::One(SharedMessage::new(alloc, message)?),
+        })
+    }
+
+    /// Adds a message that is stored already behind the others. On an error all messages are dropped.
+    pub fn add(&mut self, alloc: Global, message: SharedMessage) -> Result<(), AllocError>
+        ensures { OnOk result (self.new ≡ self.old ++ message ∷ []) }
+    {
+        let kept = std::mem::replace(&mut self.kept, CompactSends::Nothing);
+        self.kept = more(alloc, kept, message)?;
+        Ok(())
+    }
+
+    /// Adds a message behind the others. On an error all messages are dropped.
+    pub fn push(&mut self, alloc: Global, message: Message) -> Result<(), AllocError>
+        ensures { OnOk result (self.new ≡ self.old ++ message ∷ []) }
+    {
+        self.add(alloc, SharedMessage::new(alloc, message)?)
+    }
+
+    /// Adds the messages of the other list behind those here, in their order. On an error all
+    /// messages here are dropped.
+    pub fn append(&mut self, alloc: Global, others: Sends) -> Result<(), AllocError>
+        ensures { OnOk result (self.new ≡ self.old ++ others) }
+    {
+        if self.is_empty() {
+            *self = others;
+            return Ok(());
+        }
+        for message in others.as_slice() {
+            self.add(alloc, message.share()?)?;
+        }
+        Ok(())
+    }
+
+    /// The messages with no more memory than they need, where the system can shrink it.
+    pub fn fitted(self) -> Sends
+        ensures { result ≡ self }
+    {
+        match self.kept {
+            CompactSends::Many(items) => {
+                let mut items = items;
+                items.fit();
+                Sends {
+                    kept: CompactSends::Many(items),
+                }
+            }
+            kept => Sends { kept },
+        }
+    }
+
+    /// The number of messages.
+    pub fn len(&self) -> usize
+        ensures { result ≡ length self.now }
+    {
+        self.as_slice().len()
+    }
+
+    /// Whether there is no message.
+    pub fn is_empty(&self) -> bool
+        ensures { IsTrue result ↔ (self.now ≡ []) }
+    {
+        self.as_slice().is_empty()
     }
 
     /// The messages, in the order in which the rules name them.

@@ -6,9 +6,9 @@ ghost use Rattle.node_core.specs.code.Plans.{TellsOf};
 
 use crate::change::NodeChange;
 use crate::node_edit::NodeEdit;
-use messages::items::Items;
 use messages::message::Message;
 use messages::outcome::Outcome;
+use messages::sends::Sends;
 use model::call::CallId;
 use model::reply::Reply;
 use std::alloc::{AllocError, Global};
@@ -19,18 +19,18 @@ use std::alloc::{AllocError, Global};
 pub struct Effect {
     pub edit: Box<NodeEdit>,
     pub reply: Option<(CallId, Reply)>,
-    pub sends: Items<Message>,
+    pub sends: Sends,
 }
 
 impl Effect {
     /// The effect without a reply and without messages.
-    pub fn quiet(alloc: Global, edit: Box<NodeEdit>) -> Effect
+    pub fn quiet(edit: Box<NodeEdit>) -> Effect
         ensures { result ≡ record { edit = edit; reply = None; sends = [] } }
     {
         Effect {
             edit,
             reply: None,
-            sends: Items::new(alloc),
+            sends: Sends::nothing(),
         }
     }
 
@@ -45,18 +45,18 @@ impl Effect {
         Ok(Effect {
             edit,
             reply: None,
-            sends: Items::one(alloc, message)?,
+            sends: Sends::one(alloc, message)?,
         })
     }
 
     /// The effect of a reply to a call, without messages.
-    pub fn answered(alloc: Global, edit: Box<NodeEdit>, call: CallId, reply: Reply) -> Effect
+    pub fn answered(edit: Box<NodeEdit>, call: CallId, reply: Reply) -> Effect
         ensures { result ≡ record { edit = edit; reply = Some (call, reply); sends = [] } }
     {
         Effect {
             edit,
             reply: Some((call, reply)),
-            sends: Items::new(alloc),
+            sends: Sends::nothing(),
         }
     }
 
@@ -64,8 +64,8 @@ impl Effect {
     pub fn with_first(self, alloc: Global, first: Message) -> Result<Effect, AllocError>
         ensures { IfOk result (λ effect. effect ≡ record { edit = self.edit; reply = self.reply; sends = first ∷ self.sends }) }
     {
-        let mut sends = Items::one(alloc, first)?;
-        sends.append(self.sends)?;
+        let mut sends = Sends::one(alloc, first)?;
+        sends.append(alloc, self.sends)?;
         Ok(Effect {
             edit: self.edit,
             reply: self.reply,
@@ -75,7 +75,12 @@ impl Effect {
 
     /// Puts `freed` behind the other messages, and adds the file to those for which no Freed is owed
     /// any longer.
-    pub fn with_freed_last(self, file: u16, freed: Message) -> Result<Effect, AllocError>
+    pub fn with_freed_last(
+        self,
+        alloc: Global,
+        file: u16,
+        freed: Message,
+    ) -> Result<Effect, AllocError>
         ensures { IfOk result (λ effect. TellsOf file freed self effect) }
     {
         let Effect {
@@ -84,7 +89,7 @@ impl Effect {
             mut sends,
         } = self;
         edit.freed.push(file)?;
-        sends.push(freed)?;
+        sends.push(alloc, freed)?;
         Ok(Effect { edit, reply, sends })
     }
 

@@ -3,10 +3,8 @@ use journal_text::parse::parse;
 use messages::actor::Actor;
 use messages::entry::Entry;
 use messages::event::Event;
-use messages::message::Message;
 use messages::outcome::Outcome;
 use messages::shape::Shape;
-use messages::shared_message::SharedMessage;
 use std::alloc::Global;
 use std::test::Fail;
 
@@ -22,7 +20,7 @@ pub fn read(alloc: Global, text: &str) -> Result<(Shape, Vec<Entry>), Fail> {
 pub fn is_of(entry: &Entry, outcome: &Outcome) -> bool {
     outcome.call == entry.call()
         && outcome.reply == entry.reply()
-        && same_messages(outcome.sends.as_slice(), entry.sends())
+        && outcome.sends.as_slice() == entry.sends()
 }
 
 /// The actor that takes the event, if one does, where there is one file.
@@ -32,8 +30,4 @@ pub fn actor_of(event: &Event) -> Actor {
         Event::Deliver(message) => message.get().addressee(),
         _ => Actor::Server(1),
     }
-}
-
-fn same_messages(given: &[Message], sends: &[SharedMessage]) -> bool {
-    given.len() == sends.len() && given.iter().zip(sends).all(|(one, other)| other.same(one))
 }

@@ -18,6 +18,7 @@ use messages::actor::Actor;
 use messages::event::Event;
 use messages::message::Message;
 use messages::shape::Shape;
+use messages::shared_message::SharedMessage;
 use messages::version::Version;
 use model::call::CallId;
 use model::policy::Policy;
@@ -49,11 +50,11 @@ fn push_to(out: &mut String, message: &Message) -> Result<(), AllocError>
 }
 
 // Adds the lines of the messages that are sent.
-fn push_sends(out: &mut String, messages: &[Message]) -> Result<(), AllocError>
+fn push_sends(out: &mut String, messages: &[SharedMessage]) -> Result<(), AllocError>
     ensures { OnOk result (string_bytes out.new ≡ string_bytes out.old ++ to_lines messages.now) }
 {
     for message in messages {
-        push_to(out, message)?;
+        push_to(out, message.get())?;
     }
     Ok(())
 }

@@ -6,6 +6,7 @@ ghost use Rattle.seats.specs.rule.Steps.{of_member, step_of};
 use messages::event::{Event, MemberEvent};
 use messages::items::Items;
 use messages::outcome::Outcome;
+use messages::sends::Sends;
 use std::alloc::{AllocError, Global};
 
 /// A step of the seat's actor, or a change of a member: the event, the incarnation or epoch that its entry names (0 for none),
@@ -42,6 +43,6 @@ pub(crate) fn silent(
 ) -> Result<Items<SeatStep>, AllocError>
     ensures { IfOk result (λ steps. steps ≡ of_member change incarnation (sending []) ∷ []) }
 {
-    let outcome = Outcome::sending(Items::new(alloc));
+    let outcome = Outcome::sending(Sends::nothing());
     one(alloc, Event::Member(change), incarnation, outcome)
 }

@@ -24,10 +24,10 @@ use crate::token_queue::line::Line;
 use members::members::Members;
 use messages::event::ServerInput;
 use messages::file_number::FileNumber;
-use messages::items::Items;
 use messages::message::Message;
 use messages::outcome::Outcome;
 use messages::refusal::StepError;
+use messages::sends::Sends;
 use messages::shape::Shape;
 use std::alloc::{AllocError, Global};
 use std::marker::Model;
@@ -221,7 +221,7 @@ impl Server {
         let _ = &self.shape; // tells the proof what holds between two steps
         let forgotten = KnownChange::Forgotten { incarnation };
         let sketch = Sketch::of(node, forgotten, Moved::Waiting, None);
-        self.serve_after(&sketch, alloc, Items::new(alloc))
+        self.serve_after(&sketch, alloc, Sends::nothing())
     }
 
     /// Plans the step that `step` makes. Only what the event changes is made anew.
@@ -310,22 +310,22 @@ impl Server {
 }
 
 // The message, if there is one, as a list.
-fn in_list(alloc: Global, message: Option<Message>) -> Result<Items<Message>, AllocError>
-    ensures { IfOk result (λ items. items ≡ option_to_list message) }
+fn in_list(alloc: Global, message: Option<Message>) -> Result<Sends, AllocError>
+    ensures { IfOk result (λ sends. sends ≡ option_to_list message) }
 {
     match message {
-        Some(message) => Items::one(alloc, message),
-        None => Ok(Items::new(alloc)),
+        Some(message) => Sends::one(alloc, message),
+        None => Ok(Sends::nothing()),
     }
 }
 
 // The commands as messages, in order.
-fn commands_told(alloc: Global, told: &[SentCommand]) -> Result<Items<Message>, AllocError>
+fn commands_told(alloc: Global, told: &[SentCommand]) -> Result<Sends, AllocError>
     ensures { IfOk result (λ commands. commands ≡ commands_told told.now) }
 {
-    let mut commands = Items::new(alloc);
+    let mut commands = Sends::nothing();
     for next in told {
-        commands.push(next.command.message())?;
+        commands.push(alloc, next.command.message())?;
     }
     Ok(commands)
 }

@@ -14,12 +14,10 @@ use super::World;
 use super::world_change::WorldChange;
 use messages::entry::Entry;
 use messages::event::{Event, MemberEvent};
-use messages::items::Items;
-use messages::kept_outcome::KeptOutcome;
 use messages::kept_reply::KeptReply;
-use messages::message::Message;
 use messages::outcome::Outcome;
 use messages::refusal::Refused;
+use messages::sends::Sends;
 use std::alloc::{AllocError, Global};
 use token_server::server::Server;
 
@@ -50,7 +48,7 @@ impl World {
         &self,
         alloc: Global,
         file: u16,
-    ) -> Result<(Box<Server>, Items<Message>), Refused>
+    ) -> Result<(Box<Server>, Sends), Refused>
         requires { is_within self.now.shape.files file ≡ true }
         ensures ok { IfOk result (λ r. IsStart self.now file r.0.value r.1) }
         ensures err { IfErr result (λ e. e ≢ NoMemory → start_rule (world_state self.now) file ≡ Err e) }
@@ -74,7 +72,7 @@ impl World {
     }
 
     /// Declares the token server of the file failed. Gives the entry.
-    pub(super) fn fail(&mut self, alloc: Global, file: u16) -> Entry
+    pub(super) fn fail(&mut self, file: u16) -> Entry
         requires room { self.old.length < journal_limit }
         requires file { is_within self.old.shape.files file ≡ true }
         requires works { (world_state self.old).working file ≡ true }
@@ -84,20 +82,18 @@ impl World {
             unreachable!()
         };
         self.length += 1;
-        let outcome = Outcome::sending(Items::new(alloc));
-        let kept = KeptOutcome::nothing();
+        let outcome = Outcome::sending(Sends::nothing());
         let event = Event::Member(MemberEvent::FailServer { file });
-        Entry::at_node(event, epoch, outcome, kept)
+        Entry::at_node(event, epoch, outcome, KeptReply::nothing())
     }
 
     /// Starts the token server of the file again, in this state, with the messages in which it asks the nodes for
     /// their tokens. Gives the entry.
     pub(super) fn start(
         &mut self,
-        alloc: Global,
         file: u16,
         begun: Box<Server>,
-        sends: Items<Message>,
+        sends: Sends,
     ) -> Result<Entry, AllocError>
         requires room { self.old.length < journal_limit }
         requires made { IsStart self.old file begun.value sends }
@@ -105,21 +101,14 @@ impl World {
         ensures err { OnErr result ((e : Refused) → start_rule (world_state self.old) file ≢ Err e) }
         ensures unchanged { OnErr result (self.new ≡ self.old) }
     {
-        let shared = self.sent.extend(alloc, sends.as_slice())?;
+        self.sent.extend(sends.as_slice())?;
         let Ok(epoch) = self.members.start_server(file) else {
             unreachable!()
         };
         self.servers[file as usize - 1] = Box::into_inner(begun);
         self.length += 1;
         let outcome = Outcome::sending(sends);
-        Ok(Entry::at_node(
-            Event::Member(MemberEvent::StartServer { file }),
-            epoch,
-            outcome,
-            KeptOutcome {
-                reply: KeptReply::nothing(),
-                sends: shared,
-            },
-        ))
+        let event = Event::Member(MemberEvent::StartServer { file });
+        Ok(Entry::at_node(event, epoch, outcome, KeptReply::nothing()))
     }
 }

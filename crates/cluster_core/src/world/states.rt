@@ -18,9 +18,8 @@ use super::events::is_number;
 use super::{JOURNAL_LIMIT, World};
 use messages::entry::Entry;
 use messages::event::{Event, MemberEvent};
-use messages::items::Items;
-use messages::message::Message;
 use messages::refusal::Refused;
+use messages::sends::Sends;
 use node_core::node::Node;
 use std::alloc::{AllocError, Global};
 use token_server::server::Server;
@@ -167,7 +166,7 @@ impl World {
         &self,
         alloc: Global,
         file: u16,
-    ) -> Result<(Box<Server>, Items<Message>), Refused>
+    ) -> Result<(Box<Server>, Sends), Refused>
         ensures begins { IfOk result (λ r. server_state r.0.value ≡ next_server (world_state self.now) file) }
         ensures asks { IfOk result (λ r. r.1 ≡ outstanding (next_server (world_state self.now) file)) }
         ensures err { IfErr result (λ e. e ≢ NoMemory → kept_next (world_state self.now) (Member (StartServer file)) ≡ Err e) }

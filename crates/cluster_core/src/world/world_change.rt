@@ -1,6 +1,5 @@
 //! The change that an event makes in a world, as it is planned.
-use messages::items::Items;
-use messages::message::Message;
+use messages::sends::Sends;
 use node_core::change::NodeChange;
 use node_core::node::Node;
 use token_server::change::ServerChange;
@@ -39,6 +38,6 @@ pub(crate) enum WorldChange {
     Started {
         file: u16,
         begun: Box<Server>,
-        sends: Items<Message>,
+        sends: Sends,
     },
 }

@@ -67,7 +67,7 @@ impl Node {
         let mut edit = NodeEdit::of(alloc, draft)?;
         edit.table = table;
         edit.calls = CallsEdit::Gone(number);
-        Ok(Effect::answered(alloc, edit, self.id(number), reply))
+        Ok(Effect::answered(edit, self.id(number), reply))
     }
 
     // Answers a call that is open already, if there is a reply; else it stays open.
@@ -82,7 +82,7 @@ impl Node {
         ensures fits { IfOk result (λ effect. PartsFit self.now effect.edit) }
     {
         match reply {
-            None => Ok(Effect::quiet(alloc, NodeEdit::none(alloc)?)),
+            None => Ok(Effect::quiet(NodeEdit::none(alloc)?)),
             Some(reply) => self.answer(
                 alloc,
                 NodeDraft::none(),
@@ -130,7 +130,12 @@ impl Node {
 
     // Sends a Freed for the file, if one is owed. The files of the effect so far have lower
     // numbers.
-    pub(super) fn tell_freed(&self, file: u16, effect: Effect) -> Result<Effect, AllocError>
+    pub(super) fn tell_freed(
+        &self,
+        alloc: Global,
+        file: u16,
+        effect: Effect,
+    ) -> Result<Effect, AllocError>
         requires file { IsNumber (node_state self.now).shape.files file }
         requires fits { PartsFit self.now effect.edit }
         requires rises { All (λ f. f < file) effect.edit.value.freed }
@@ -141,7 +146,7 @@ impl Node {
         if !self.owes_freed(&effect.edit.draft, file) {
             return Ok(effect);
         }
-        effect.with_freed_last(file, self.freed(file))
+        effect.with_freed_last(alloc, file, self.freed(file))
     }
 
     // Sets or frees the bytes and answers the call. A Freed is sent if one is owed and other nodes'
@@ -167,7 +172,7 @@ impl Node {
         if !may_free(mode, &reply) {
             return Ok(effect);
         }
-        self.tell_freed(target.file, effect)
+        self.tell_freed(alloc, target.file, effect)
     }
 
     // Answers the call by the node's own table.

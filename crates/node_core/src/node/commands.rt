@@ -61,7 +61,7 @@ impl Node {
         let answer = known.answer;
         let edit = NodeEdit::of(alloc, self.draft_of(alloc, known)?)?;
         match answer {
-            None => Ok(Effect::quiet(alloc, edit)),
+            None => Ok(Effect::quiet(edit)),
             Some(answer) => Effect::sent(alloc, edit, answer.message()),
         }
     }
@@ -86,7 +86,7 @@ impl Node {
         let known = self.enter(command.file.get(), number);
         if number != known.last {
             let edit = NodeEdit::of(alloc, self.draft_of(alloc, known)?)?;
-            return Ok(Effect::quiet(alloc, edit));
+            return Ok(Effect::quiet(edit));
         }
         self.remembered(alloc, known)
     }
@@ -216,7 +216,7 @@ impl Node {
         let is_begun = number.get() != known.last;
         let edit = NodeEdit::of(alloc, self.draft_of(alloc, known)?)?;
         if is_begun {
-            return Ok(Effect::quiet(alloc, edit));
+            return Ok(Effect::quiet(edit));
         }
         Effect::sent(alloc, edit, self.report(alloc, file, number)?)
     }
@@ -234,7 +234,7 @@ impl Node {
         ensures fits { IfOk result (λ effect. PartsFit self.now effect.edit) }
     {
         match call {
-            None => Ok(Effect::quiet(alloc, NodeEdit::none(alloc)?)),
+            None => Ok(Effect::quiet(NodeEdit::none(alloc)?)),
             Some(call) => self.answer_if(alloc, call.number, refusal_of(call.lock_command, lock)),
         }
     }
@@ -293,7 +293,7 @@ impl Node {
                 let waiting = self.open_call(call.number);
                 self.deny(alloc, waiting, *lock)
             }
-            _ => Ok(Effect::quiet(alloc, NodeEdit::none(alloc)?)),
+            _ => Ok(Effect::quiet(NodeEdit::none(alloc)?)),
         }
     }
 
@@ -312,7 +312,7 @@ impl Node {
             return Err(StepError::Stranger);
         }
         if !self.is_for_now(message) {
-            return Ok(Effect::quiet(alloc, NodeEdit::none(alloc)?).change(None));
+            return Ok(Effect::quiet(NodeEdit::none(alloc)?).change(None));
         }
         let effect = self.deliver(alloc, message)?;
         Ok(effect.change(None))

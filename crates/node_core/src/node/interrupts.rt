@@ -21,7 +21,7 @@ impl Node {
         ensures fits { IfOk result (λ effect. PartsFit self.now effect.edit) }
     {
         match call {
-            None => Ok(Effect::quiet(alloc, NodeEdit::none(alloc)?)),
+            None => Ok(Effect::quiet(NodeEdit::none(alloc)?)),
             Some(call) => self.answer_if(alloc, call.number, interruption_of(call.lock_command)),
         }
     }

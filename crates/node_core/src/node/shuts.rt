@@ -37,7 +37,7 @@ impl Node {
         let mut edit = NodeEdit::of(alloc, NodeDraft::of_call())?;
         edit.table = table;
         edit.calls = CallsEdit::Left { pid, number };
-        Ok(Effect::answered(alloc, edit, self.id(number), reply))
+        Ok(Effect::answered(edit, self.id(number), reply))
     }
 
     // Closes the descriptor and answers the call. If a Freed is owed for the descriptor's file, it
@@ -55,14 +55,20 @@ impl Node {
                     NodeTableEdit::Closes { pid, fd },
                     Reply::Done,
                 )?;
-                self.tell_freed(opened.file, effect)
+                self.tell_freed(alloc, opened.file, effect)
             }
             Err(error) => self.answer_call(alloc, NodeTableEdit::Nothing, error.reply()),
         }
     }
 
     // Sends a Freed for the file, if the process has the file open and a Freed is owed.
-    fn tell_if_open(&self, pid: u16, file: u16, effect: Effect) -> Result<Effect, AllocError>
+    fn tell_if_open(
+        &self,
+        alloc: Global,
+        pid: u16,
+        file: u16,
+        effect: Effect,
+    ) -> Result<Effect, AllocError>
         requires file { IsNumber (node_state self.now).shape.files file }
         requires fits { PartsFit self.now effect.edit }
         requires rises { All (λ f. f < file) effect.edit.value.freed }
@@ -73,12 +79,12 @@ impl Node {
         if !self.processes.has_open(pid, file) {
             return Ok(effect);
         }
-        self.tell_freed(file, effect)
+        self.tell_freed(alloc, file, effect)
     }
 
     // Sends a Freed for each file that the process has open and for which one is owed, by rising
     // file numbers.
-    fn tell_open(&self, pid: u16, effect: Effect) -> Result<Effect, AllocError>
+    fn tell_open(&self, alloc: Global, pid: u16, effect: Effect) -> Result<Effect, AllocError>
         requires fits { PartsFit self.now effect.edit }
         requires first { effect.edit.value.freed ≡ [] }
         ensures value { IfOk result (λ told. with_freed_of (has_open (processes self.now.processes) pid) (node_state self.now).shape.files (effect_of self.now effect) ≡ effect_of self.now told) }
@@ -89,7 +95,7 @@ impl Node {
             if !self.owes_freed(&told.edit.draft, before + 1) {
                 continue;
             }
-            told = self.tell_if_open(pid, before + 1, told)?;
+            told = self.tell_if_open(alloc, pid, before + 1, told)?;
         }
         Ok(told)
     }
@@ -106,6 +112,6 @@ impl Node {
             return self.answer_exit(alloc, pid, NodeTableEdit::Nothing, Reply::NoProcess);
         }
         let effect = self.answer_exit(alloc, pid, NodeTableEdit::Exits { pid }, Reply::Done)?;
-        self.tell_open(pid, effect)
+        self.tell_open(alloc, pid, effect)
     }
 }

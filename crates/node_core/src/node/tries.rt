@@ -129,7 +129,7 @@ impl Node {
         let calls = self.keep_open(&draft, call)?;
         let mut edit = NodeEdit::of(alloc, draft)?;
         edit.calls = calls;
-        Ok(Effect::quiet(alloc, edit))
+        Ok(Effect::quiet(edit))
     }
 
     // Tries a call: first against the node's own locks of other owners, then by its token; if that
@@ -169,7 +169,7 @@ impl Node {
         ensures fits { IfOk result (λ effect. PartsFit self.now effect.edit) }
     {
         match call {
-            None => Ok(Effect::quiet(alloc, NodeEdit::of(alloc, draft)?)),
+            None => Ok(Effect::quiet(NodeEdit::of(alloc, draft)?)),
             Some(call) => self.try_call(alloc, draft, &call),
         }
     }

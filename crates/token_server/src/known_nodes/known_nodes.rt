@@ -24,8 +24,7 @@ use crate::known_nodes::token_holder::{RowView, TokenHolder};
 use members::members::Members;
 use messages::epoch_number::EpochNumber;
 use messages::file_number::FileNumber;
-use messages::items::Items;
-use messages::message::Message;
+use messages::sends::Sends;
 use messages::shape::Shape;
 use model::host::Host;
 use std::alloc::{AllocError, Global};
@@ -302,13 +301,13 @@ impl KnownNodes {
     }
 
     /// The outstanding commands, by rising number of the node.
-    pub fn outstanding(&self, alloc: Global) -> Result<Items<Message>, AllocError>
+    pub fn outstanding(&self, alloc: Global) -> Result<Sends, AllocError>
         ensures { IfOk result (λ commands. commands ≡ outstanding_to (rows_of self.now) (length self.now)) }
     {
-        let mut commands = Items::new(alloc);
+        let mut commands = Sends::nothing();
         for known_node in &self.nodes {
             if let Some(command) = known_node.outstanding() {
-                commands.push(command)?;
+                commands.push(alloc, command)?;
             }
         }
         Ok(commands)

@@ -19,10 +19,9 @@ use crate::change::{ServerChange, ServerEdit};
 use crate::gone::Gone;
 use crate::known_nodes::row_edit::RowEdit;
 use crate::sketch::{Moved, Sketch};
-use messages::items::Items;
-use messages::message::Message;
 use messages::outcome::Outcome;
 use messages::refusal::StepError;
+use messages::sends::Sends;
 use std::alloc::{AllocError, Global};
 
 impl Server {
@@ -93,7 +92,7 @@ impl Server {
         &self,
         sketch: &Sketch,
         alloc: Global,
-    ) -> Result<(Box<ServerEdit>, Items<Message>), StepError>
+    ) -> Result<(Box<ServerEdit>, Sends), StepError>
         requires in_cluster { IfSome sketch.now.changed (λ c. IsNumber self.now.shape.nodes c.node) }
         requires orderly { IsOrderly (sketched self.now sketch.now) }
         ensures ok { IfOk result (λ r. serve (sketched self.now sketch.now) ≡ Ok (planned self.now r.0, r.1)) }
@@ -120,7 +119,7 @@ impl Server {
         &self,
         sketch: &Sketch,
         alloc: Global,
-        first: Items<Message>,
+        first: Sends,
     ) -> Result<ServerChange, StepError>
         requires in_cluster { IfSome sketch.now.changed (λ c. IsNumber self.now.shape.nodes c.node) }
         requires orderly { IsOrderly (sketched self.now sketch.now) }
@@ -130,7 +129,7 @@ impl Server {
     {
         let (edit, served) = self.serve(sketch, alloc)?;
         let mut sends = first;
-        sends.append(served)?;
+        sends.append(alloc, served)?;
         Ok(ServerChange {
             edit,
             outcome: Outcome::sending(sends),
@@ -145,6 +144,6 @@ impl Server {
         ensures err { IfErr result (λ e. e ≡ StepError.NoMemory) }
     {
         let _ = &self.shape; // tells the proof what holds between two steps
-        self.serve_after(&Sketch::moving(Moved::Nothing), alloc, Items::new(alloc))
+        self.serve_after(&Sketch::moving(Moved::Nothing), alloc, Sends::nothing())
     }
 }

@@ -28,9 +28,8 @@ use crate::token_queue::active_request::ActiveRequest;
 use crate::token_queue::token_request::TokenRequest;
 use intervals::span::Span;
 use messages::command_number::CommandNumber;
-use messages::items::Items;
-use messages::message::Message;
 use messages::refusal::StepError;
+use messages::sends::Sends;
 use messages::wanted::Wanted;
 use model::host::Host;
 use model::mode::Mode;
@@ -280,7 +279,7 @@ impl Server {
         draft: &ServerEdit,
         sketch: &Sketch,
         alloc: Global,
-    ) -> Result<(Vec<NewRow>, Items<Message>), StepError>
+    ) -> Result<(Vec<NewRow>, Sends), StepError>
         requires { IsDrafted self.now sketch.now draft.now }
         ensures ok { IfOk result (λ r. IsServed self.now sketch.now draft.now r.0.items r.1) }
         ensures err { IfErr result (λ e. e ≢ StepError.NoMemory → serve (sketched self.now sketch.now) ≡ Err e) }

@@ -42,10 +42,10 @@ returns-in_err-reply-clause-err c =
     let p = err_from_is_err_and c.from_residual.result c.from_residual.ensures.1 in
     rw p.1 (λ e refused. server_goes (world_state c.args.self.now) c.args.event c.args.file _ _ _ e plan.done plan.gives refused)
 
-pub returns-in_err-sends-clause-err : goal.returns-in_err-sends-clause-err
-returns-in_err-sends-clause-err c =
+pub returns-in_err-extend-clause-err : goal.returns-in_err-extend-clause-err
+returns-in_err-extend-clause-err c =
     let plan = c.requires.made in
-    let p = err_from_is_err_and c.from_residual-in_err-sends.result c.from_residual-in_err-sends.ensures.1 in
+    let p = err_from_is_err_and c.from_residual-in_err-extend.result c.from_residual-in_err-extend.ensures.1 in
     rw p.1 (λ e refused. server_goes (world_state c.args.self.now) c.args.event c.args.file _ _ _ e plan.done plan.gives refused)
 
 pub invariant_of-self-2 : goal.invariant_of-self-2

@@ -16,4 +16,4 @@ returns c =
     let here : WorldParts = record { shape = c.self.inside.shape; nodes = c.self.inside.nodes.items; members = c.self.inside.members; servers = c.self.inside.servers.items; sent = c.self.inside.sent; length = c.self.inside.length } in
     let P : WorldParts → Type 0 = λ q. fail_rule (world_state q) c.args.file ≡ Ok (world_state (failed_parts here c.fail_server.new.self), c.at_node.result) in
     opened P _ _ c.args.file c.self.view_is c.requires.file
-    (λ number. failed_done _ c.self.invariant c.args.file number _ c.fail_server.ensures.others _ c.in-Ok.ensures.ok c.sending-outcome.result _ c.at_node.result c.sending-outcome.ensures c.new.ensures c.at_node.ensures)
+    (λ number. failed_done _ c.self.invariant c.args.file number _ c.fail_server.ensures.others _ c.in-Ok.ensures.ok c.sending-outcome.result _ c.at_node.result c.sending-outcome.ensures c.nothing.ensures c.at_node.ensures)
