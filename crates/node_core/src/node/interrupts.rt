@@ -1,5 +1,5 @@
 //! How a node interrupts the wait of a process.
-ghost use Rattle.std.specs.Prelude.{◌≡◌, Ok, Err, IfOk, IfErr, IfSome};
+ghost use Rattle.std.specs.Prelude.{◌≡◌, ◌≢◌, Ok, Err, IfOk, IfErr, IfSome};
 ghost use Rattle.node_core.specs.rule.Interrupts.{interrupted, interrupt_rule};
 ghost use Rattle.node_core.specs.rule.Parts.{node_state, IsCallOf};
 ghost use Rattle.node_core.specs.code.Plans.{planned, effect_of, PartsFit};
