@@ -1,6 +1,5 @@
 -- A planned step changes the node as the rule says.
-use Rattle.std.specs.Global.{Global}
-use Rattle.std.specs.Prelude.{◌≡◌, ℕ, ◌+◌, ◌<◌, ◌==◌, ◌&&◌, Bool, true, false, not, if◌then◌else◌, List, [], ◌∷◌, ◌++◌, All, length, Option, Some, Box, Result, Ok, Err, IfOk, filter, refl}
+use Rattle.std.specs.Prelude.{◌≡◌, ℕ, ◌+◌, ◌<◌, ◌==◌, ◌&&◌, Bool, true, false, not, if◌then◌else◌, List, [], ◌∷◌, ◌++◌, All, length, Option, Some, Result, Ok, Err, IfOk, filter, refl}
 use Rattle.std.specs.declared.alloc.AllocError.{AllocError}
 use Rattle.std.proofs.Common.{arith, ap, sym, subst, ◌∙◌}
 use Rattle.std.proofs.lemmas.Bool.{ne_eqb}
@@ -169,7 +168,7 @@ calls-edited p (Left pid number) fit h =
     All-filter (λ c. not (c.number == number)) (IsOwnCall p.shape.files p.node p.incarnation) (filter theirs p.pending) (All-filter theirs (IsOwnCall p.shape.files p.node p.incarnation) p.pending h.calls_in)
 
 -- the node is sound after a change that fits
-pub node-edited : (p : NodeParts) (e : Box NodeEdit Global) (calls : ℕ) (rows : List ProcessEntry) (locks : TableParts) (pending : List OpenCall) (files : List FileRow) → pending ≡ pending_after p.pending e.value.calls → length files ≡ length p.files → node_state (changed p calls rows locks pending files) ≡ planned p e → Fits p e → IsNode p → IsNode (changed p calls rows locks pending files)
+pub node-edited : (p : NodeParts) (e : NodeEdit) (calls : ℕ) (rows : List ProcessEntry) (locks : TableParts) (pending : List OpenCall) (files : List FileRow) → pending ≡ pending_after p.pending e.calls → length files ≡ length p.files → node_state (changed p calls rows locks pending files) ≡ made p e → EditFits p e × IsAnchored (made p e) → IsNode p → IsNode (changed p calls rows locks pending files)
 unfolding node_state
 node-edited p e calls rows locks pending files left count is fit h = record {
   host = h.host;
@@ -177,8 +176,8 @@ node-edited p e calls rows locks pending files left count is fit h = record {
   files_in = count ∙ h.files_in;
   opened_in = λ pid fd o there.
       let now = ap (λ (s : NodeState). s.table.on s.node s.incarnation) (sym is) ∙ around-own (changed p calls rows locks pending files) 0 in
-      opened-after p e.value.table fit.0.1 h pid fd o (ap (λ (ps : Processes). ps.opened pid fd) now ∙ there);
-  calls_in = subst (All (IsOwnCall p.shape.files p.node p.incarnation)) (sym left) (calls-edited p e.value.calls fit.0.2 h);
+      opened-after p e.table fit.0.1 h pid fd o (ap (λ (ps : Processes). ps.opened pid fd) now ∙ there);
+  calls_in = subst (All (IsOwnCall p.shape.files p.node p.incarnation)) (sym left) (calls-edited p e.calls fit.0.2 h);
 }
 
 -- no lock of a node outlives its descriptors

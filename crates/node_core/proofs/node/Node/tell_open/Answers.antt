@@ -1,11 +1,12 @@
-use Rattle.std.specs.Prelude.{◌≡◌, ℕ, ◌<◌, ◌+◌, List, All}
+use Rattle.std.specs.Prelude.{◌≡◌, ℕ, ◌<◌, ◌+◌, Bool, List, All}
 use Rattle.std.proofs.Common.{arith, ap, sym, subst, ◌∙◌}
 use Rattle.std.proofs.lemmas.List.Elements.{All-nil}
 use Rattle.model.specs.rule.Descriptors.{has_open}
 use Rattle.descriptors.specs.code.Rows.{processes}
 use Rattle.node_core.specs.rule.Try.{with_freed, with_freed_of}
 use Rattle.node_core.specs.rule.Parts.{node_state}
-use Rattle.node_core.specs.code.Plans.{effect_of}
+use Rattle.node_core.specs.declared.node_edit.NodeEdit.{NodeEdit}
+use Rattle.node_core.specs.code.Plans.{drafted, effect_of}
 use Rattle.node_core.proofs.NodeLaws.{if-both}
 use Rattle.node_core.proofs.PlanLaws.{told-nothing}
 use Rattle.node_core.proofs.ShutLaws.{freed-zero, freed-more, next-file, last-file}
@@ -26,7 +27,9 @@ pub loop-before-preserved-then-not-owes_freed : goal.loop-before-preserved-then-
 loop-before-preserved-then-not-owes_freed c =
     let passes = has_open (processes c.args.self.now.processes) c.args.pid in
     let e = effect_of c.args.self.now c.loop-before.told in
-    let same = told-nothing c.args.self.now c.loop-before.told (c.loop-before.before + 1) c.loop-before.invariant.rises (sym c.owes_freed.ensures ∙ c.if-not-owes_freed.true) in
+    let owes : NodeEdit → Bool = λ k. ((drafted c.args.self.now k.draft).files (c.loop-before.before + 1)).owes_freed in
+    let owed = ap owes (sym c.deref.ensures) ∙ sym c.owes_freed.ensures ∙ c.if-not-owes_freed.true in
+    let same = told-nothing c.args.self.now c.loop-before.told (c.loop-before.before + 1) c.loop-before.invariant.rises owed in
     record {
       value = freed-more passes c.loop-before.before (effect_of c.args.self.now c.args.effect) e c.loop-before.invariant.value ∙ if-both (passes (c.loop-before.before + 1)) (with_freed (c.loop-before.before + 1) e) e same;
       fits = c.loop-before.invariant.fits;
