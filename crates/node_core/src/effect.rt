@@ -35,11 +35,7 @@ impl Effect {
     }
 
     /// The effect of sending one message, without a reply.
-    pub fn sent(
-        alloc: Global,
-        edit: Box<NodeEdit>,
-        message: Message,
-    ) -> Result<Effect, AllocError>
+    pub fn sent(alloc: Global, edit: Box<NodeEdit>, message: Message) -> Result<Effect, AllocError>
         ensures { IfOk result (λ effect. effect ≡ record { edit = edit; reply = None; sends = message ∷ [] }) }
     {
         Ok(Effect {

@@ -90,11 +90,7 @@ impl Server {
 
     // Serves the active requests in order. A request is granted, unless another node's row conflicts: then the token
     // of the least such node is revoked first. Serves none before each node has reported its token.
-    fn serve(
-        &self,
-        sketch: &Sketch,
-        alloc: Global,
-    ) -> Result<(Box<ServerEdit>, Sends), StepError>
+    fn serve(&self, sketch: &Sketch, alloc: Global) -> Result<(Box<ServerEdit>, Sends), StepError>
         requires in_cluster { IfSome sketch.now.changed (λ c. IsNumber self.now.shape.nodes c.node) }
         requires orderly { IsOrderly (sketched self.now sketch.now) }
         ensures ok { IfOk result (λ r. serve (sketched self.now sketch.now) ≡ Ok (planned self.now r.0, r.1)) }

@@ -27,6 +27,6 @@ returns-in-Err-clause-value c =
     let p : NodeParts = c.args.self.now in
     let is = subst (λ (q : NodeParts). resolved (processes q.processes) c.args.pid c.args.fd ≡ Err c.in-Err.error) c.self.view_is (sym c.in-Err.ensures.value) in
     let refused =
-        close-refused p c.args.pid c.args.fd c.in-Err.error is
-        ∙ ap (λ (r : Reply). settled (numbered (node_state p)) ((node_state p).calls + 1) ((node_state p).table, r)) (sym c.reply.ensures) in
+    close-refused p c.args.pid c.args.fd c.in-Err.error is
+    ∙ ap (λ (r : Reply). settled (numbered (node_state p)) ((node_state p).calls + 1) ((node_state p).table, r)) (sym c.reply.ensures) in
     subst (λ (x : Effect). IfOk c.answer_call-in-Err.result (λ e. x ≡ effect_of p e)) (sym refused) c.answer_call-in-Err.ensures.value
