@@ -7,15 +7,14 @@ use Rattle.std.proofs.lemmas.Option.{none-some}
 use Rattle.texts.specs.rule.FirstBadLine.{Begins}
 use Rattle.texts.specs.rule.FirstBadLine.IsBadNext.{stands_wrong}
 use Rattle.texts.specs.rule.LineFeeds.{line_feeds, is_skipped, kept_lines, FindsLine, PassesLines}
-use Rattle.lockscript.specs.rule.Scripts.{AreScript, Begun, IsBadFirst, IsLine, IsNoLine, IsRefused, IsScript, LineFields, ScriptFields, Writes, command_text, line_text, script_of, shape_text}
-use Rattle.lockscript.specs.rule.ThreadLines.{bad_line, is_for_threads, AreForThreads, IsBadOnThreads, IsForThreads, IsRefusedOnThreads}
+use Rattle.lockscript.specs.rule.Scripts.{AreScript, Begun, IsBadFirst, IsLine, IsNoLine, LineFields, ScriptFields, Writes, command_text, line_text, script_of, shape_text}
+use Rattle.lockscript.specs.rule.ThreadLines.{bad_line, is_for_threads, AreForThreads, IsBadOnThreads, IsRefusedOnThreads}
 use Rattle.lockscript.specs.declared.error.ParseError.{ParseError}
 use Rattle.lockscript.specs.declared.error.ParseError.TheVariants.{NoMemory, BadLine}
 use Rattle.lockscript.proofs.BadLines.{among-lines, good-begun, kept-behind, line-of, smallest, smallest-behind, unfinished-of}
 use Rattle.lockscript.proofs.Begun.{begun-line, passes-more}
 use Rattle.lockscript.proofs.CommandKinds.{command}
 use Rattle.lockscript.proofs.FirstBadLines.{bad-of_some, passes-of}
-use Rattle.lockscript.proofs.OneReading.{one_reading}
 
 abbrev number : LineFields → ℕ
 number l = l.number
@@ -115,12 +114,3 @@ bad-at-first text (BadLine at) bad =
         bad = bad-of_some AreScript AreForThreads some-script b.lines b.rest b.bad;
       },
     )
-
--- a text is that of one script
-pub one-for-threads : (text : List ℕ) (s t : ScriptFields) → IsForThreads text s → IsScript text t → IsForThreads text t
-one-for-threads text s t mine is = (is, subst (λ (x : ScriptFields). bad_line x.lines ≡ None) ((one_reading text).one_script s t mine.0 is) mine.1)
-
--- a text of a script for threads is refused for no bad line
-pub refused-for-threads : (text : List ℕ) (s : ScriptFields) (error : ParseError) → IsForThreads text s → IsRefused text error → IsRefusedOnThreads text error
-refused-for-threads text s NoMemory mine is = (s, mine)
-refused-for-threads text s (BadLine at) mine is = absurd ((one_reading text).not_both s at mine.0 is)

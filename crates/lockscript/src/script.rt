@@ -73,8 +73,13 @@ impl Script {
         ensures script { IfOk result (IsForThreads text.now) }
         ensures refused { IfErr result (IsRefusedOnThreads text.now) }
     {
-        check_for_threads(text)?;
-        Script::parse(alloc, text)
+        let Ok(script) = Script::parse(alloc, text) else {
+            return Err(refusal_on_threads(text));
+        };
+        match script.bad_line_on_threads() {
+            None => Ok(script),
+            Some(_) => Err(refusal_on_threads(text)),
+        }
     }
 
     /// The script whose text this is, as for `parse`, if its cluster has this shape.
@@ -186,6 +191,17 @@ fn check(text: &str) -> Result<(), ParseError>
         script_line(line)?;
     }
     Ok(())
+}
+
+// The reason for which a text is refused that isn't read as a script for threads: its first bad
+// line, if it has one, else `NoMemory`.
+fn refusal_on_threads(text: &str) -> ParseError
+    ensures { IsRefusedOnThreads text.now result }
+{
+    match check_for_threads(text) {
+        Ok(()) => ParseError::NoMemory,
+        Err(bad) => bad,
+    }
 }
 
 // Checks that the text is a script all of whose lines threads take.
