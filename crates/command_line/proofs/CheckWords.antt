@@ -4,7 +4,8 @@ use Rattle.std.proofs.lemmas.List.{append_assoc}
 use Rattle.clap.specs.Walk.{positional, Walk, idle, option}
 use Rattle.clap.specs.Words.{Row, Text}
 use Rattle.clap.proofs.OnLiterals.{clap_on_literals}
-use Rattle.command_line.specs.rule.Program.{check_app, check_values_in, flag_text}
+use Rattle.command_line.specs.rule.Met.{check_values_in, flag_text}
+use Rattle.command_line.specs.rule.Program.{check_app}
 use Rattle.command_line.specs.rule.Tasks.{check, flag_words, option_words}
 use Rattle.command_line.specs.rule.Words.{AsksFor}
 use Rattle.command_line.proofs.CommandWords.{asks_after, begin, behind_words, fault_after, met_after, none_read, path_row, read_then, words_row, ArePaths, IsPath, MayBePath, Reads, ReadsAll}

@@ -13,7 +13,8 @@ use Rattle.clap.specs.Words.{App, Kinds, Row, Rule, Shape, Text, fault_of, subco
 use Rattle.clap.specs.declared.builder.value_parser.Reading.{Reading}
 use Rattle.clap.specs.declared.builder.value_parser.Reading.TheVariants.{AsWritten, WithoutMinus}
 use Rattle.clap.specs.declared.parser.matches.ValueSource.TheVariants.{CommandLine}
-use Rattle.command_line.specs.rule.Program.{program_app, IsMet}
+use Rattle.command_line.specs.rule.Met.{IsMet}
+use Rattle.command_line.specs.rule.Program.{program_app}
 use Rattle.command_line.specs.rule.Tasks.{Task}
 use Rattle.command_line.specs.rule.Words.{AsksFor}
 

@@ -4,7 +4,8 @@ use Rattle.clap.specs.Lexer.{without_minus}
 use Rattle.clap.specs.Walk.{Walk}
 use Rattle.clap.specs.Words.{Row, Text}
 use Rattle.clap.proofs.OnLiterals.{clap_on_literals}
-use Rattle.command_line.specs.rule.Program.{explore_app, explore_values, explore_values_in, flag_text, AreSeeds, ExploreTexts, IsNumber}
+use Rattle.command_line.specs.rule.Met.{explore_values, explore_values_in, flag_text, AreSeeds, ExploreTexts, IsNumber}
+use Rattle.command_line.specs.rule.Program.{explore_app}
 use Rattle.command_line.specs.rule.Tasks.{explore, flag_words, greatest_seed, most_states}
 use Rattle.command_line.specs.rule.Words.{AsksFor}
 use Rattle.command_line.proofs.CommandWords.{asks_after, begin, ends_fine, fault_after, has_flag, has_value, is_path, met_after, none_read, number_row, path_row, read_then, waits_for, without_minus_is, IsPath, Reads, ReadsAll}

@@ -13,7 +13,8 @@ use Rattle.clap.specs.Walk.{has_row, one_of, row_text, with_default}
 use Rattle.clap.specs.Words.{Row, Text}
 use Rattle.clap.proofs.OnLiterals.{clap_on_literals}
 use Rattle.command_line.specs.rule.JudgeTasks.{JudgeTask, MayExplain, MayJudge, allow_words, rule_text}
-use Rattle.command_line.specs.rule.Program.{flag_text, judge_app, judge_values_in}
+use Rattle.command_line.specs.rule.Met.{flag_text, judge_values_in}
+use Rattle.command_line.specs.rule.Program.{judge_app}
 use Rattle.command_line.specs.rule.Tasks.{judge, greatest_seed, option_words}
 use Rattle.command_line.specs.rule.Words.{AsksFor}
 use Rattle.command_line.proofs.CommandWords.{asks_after, fault_after, met_after, number_row, path_row, shape, words_row, ArePaths, MayBePath}

@@ -24,3 +24,5 @@ pub mod ThreadsWords
 pub mod MetLine
 pub mod Tables
 pub mod WalkEnds
+pub mod MetValues
+pub mod MetTasks

@@ -12,7 +12,7 @@ use Rattle.clap.specs.Values.{IsSignedIn}
 use Rattle.clap.specs.Words.{ReadsOne, Text}
 use Rattle.clap.specs.declared.builder.value_parser.ValueParser.TheVariants.{Signed}
 use Rattle.clap.proofs.ValueTestLemmas.{Accepts-accepts}
-use Rattle.command_line.specs.rule.Program.{IsNumber}
+use Rattle.command_line.specs.rule.Met.{IsNumber}
 use Rattle.command_line.specs.rule.Tasks.{greatest_seed, most_states}
 
 -- how a text of 32 bits is read

@@ -3,7 +3,8 @@ use Rattle.std.proofs.Common.{refl, codes, ℕ, List, [], ◌∷◌, ◌++◌, �
 use Rattle.clap.specs.Walk.{Walk}
 use Rattle.clap.specs.Words.{Row, Text}
 use Rattle.clap.proofs.OnLiterals.{clap_on_literals}
-use Rattle.command_line.specs.rule.Program.{picture_app, picture_values_in}
+use Rattle.command_line.specs.rule.Met.{picture_values_in}
+use Rattle.command_line.specs.rule.Program.{picture_app}
 use Rattle.command_line.specs.rule.Tasks.{picture, format_text, greatest_seed}
 use Rattle.command_line.specs.rule.Words.{AsksFor}
 use Rattle.command_line.specs.declared.format.Format.{Format}

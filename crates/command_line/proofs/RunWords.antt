@@ -3,7 +3,8 @@ use Rattle.std.proofs.Common.{refl, codes, true, false, Bool, List, [], ◌∷�
 use Rattle.clap.specs.Walk.{Walk}
 use Rattle.clap.specs.Words.{Row, Text}
 use Rattle.clap.proofs.OnLiterals.{clap_on_literals}
-use Rattle.command_line.specs.rule.Program.{flag_text, run_app, run_values_in}
+use Rattle.command_line.specs.rule.Met.{flag_text, run_values_in}
+use Rattle.command_line.specs.rule.Program.{run_app}
 use Rattle.command_line.specs.declared.listing_form.ListingForm.{ListingForm}
 use Rattle.command_line.specs.declared.listing_form.ListingForm.TheVariants.{Words, Json, LeftAway}
 use Rattle.command_line.specs.rule.Tasks.{run, flag_words, form_words, is_json, is_quiet, option_words, MayBeQuiet}

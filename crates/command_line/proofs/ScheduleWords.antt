@@ -3,7 +3,8 @@ use Rattle.std.proofs.Common.{refl, codes, true, false, ℕ, Bool, List, [], ◌
 use Rattle.clap.specs.Walk.{Walk}
 use Rattle.clap.specs.Words.{Row, Text}
 use Rattle.clap.proofs.OnLiterals.{clap_on_literals}
-use Rattle.command_line.specs.rule.Program.{schedule_app, schedule_values_in}
+use Rattle.command_line.specs.rule.Met.{schedule_values_in}
+use Rattle.command_line.specs.rule.Program.{schedule_app}
 use Rattle.command_line.specs.rule.Tasks.{schedule, flag_words, greatest_seed}
 use Rattle.command_line.specs.rule.Words.{AsksFor}
 use Rattle.command_line.proofs.CommandWords.{asks_after, begin, fault_after, has_flag, has_value, is_path, met_after, none_read, number_row, path_row, read_then, waits_for, IsPath, Reads, ReadsAll}

@@ -4,7 +4,8 @@ use Rattle.std.specs.Prelude.{⊤, decimal}
 use Rattle.clap.specs.Walk.{Walk}
 use Rattle.clap.specs.Words.{Row, Text}
 use Rattle.clap.proofs.OnLiterals.{clap_on_literals}
-use Rattle.command_line.specs.rule.Program.{flag_text, state_app, state_values_in, MayBeNumber}
+use Rattle.command_line.specs.rule.Met.{flag_text, state_values_in, MayBeNumber}
+use Rattle.command_line.specs.rule.Program.{state_app}
 use Rattle.command_line.specs.rule.Tasks.{state, flag_words, given_number_words, greatest_seed, most_files, most_nodes, IsWithin}
 use Rattle.command_line.specs.rule.Words.{AsksFor}
 use Rattle.command_line.proofs.CommandWords.{asks_after, begin, fault_after, has_flag, has_value, is_path, met_after, none_read, number_row, path_row, read_then, waits_for, IsPath, Reads, ReadsAll}

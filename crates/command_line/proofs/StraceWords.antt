@@ -4,7 +4,8 @@ use Rattle.std.proofs.lemmas.List.{append_assoc}
 use Rattle.clap.specs.Walk.{positional, Walk, idle, option}
 use Rattle.clap.specs.Words.{Row, Text}
 use Rattle.clap.proofs.OnLiterals.{clap_on_literals}
-use Rattle.command_line.specs.rule.Program.{flag_text, strace_app, strace_values_in}
+use Rattle.command_line.specs.rule.Met.{flag_text, strace_values_in}
+use Rattle.command_line.specs.rule.Program.{strace_app}
 use Rattle.command_line.specs.rule.Tasks.{from_strace, most_nodes, option_words, recorded_history}
 use Rattle.command_line.specs.rule.Words.{AsksFor}
 use Rattle.command_line.proofs.CommandWords.{asks_after, begin, behind_words, fault_after, is_path, met_after, none_read, number_row, path_row, read_then, words_row, ArePaths, IsPath, MayBePath, Reads, ReadsAll}

@@ -3,12 +3,13 @@ use Rattle.std.specs.Prelude.{unwrap_or}
 use Rattle.std.proofs.Common.{ℕ, Bool, true, false, cond, length, map, refl, sym, subst, ap, codes, List, Option, Some, None, [], ◌∷◌, ◌≡◌, ◌∙◌}
 use Rattle.clap.specs.Words.{Row, Text, all_of, first_of, one_of}
 use Rattle.command_line.specs.rule.JudgeTasks.{JudgeTask, MayJudge, rule_text}
-use Rattle.command_line.specs.rule.Program.{flag_text, judge_values_in, strace_values_in, IsMet, IsNumber, MayBeNumber}
+use Rattle.command_line.specs.rule.Met.{flag_text, judge_values_in, strace_values_in, IsMet, IsNumber, MayBeNumber}
 use Rattle.command_line.specs.rule.Tasks.{Task, from_strace, recorded_history, format_text, greatest_seed, most_files, most_nodes, is_json, is_quiet, MayBeQuiet, MayRecord}
 use Rattle.command_line.specs.declared.format.Format.{Format}
 use Rattle.command_line.specs.declared.listing_form.ListingForm.{ListingForm}
 use Rattle.command_line.specs.declared.allowed_rule.AllowedRule.{AllowedRule}
-use Rattle.command_line.proofs.CommandLine.{asked_is, beside_histories, beside_several, flag_in, flag_there, form_in, form_is, form_named, given_is, histories_at, is_given, met_is, number_of, number_there, rule_words, several_at, task_named, unmet, value_at}
+use Rattle.command_line.proofs.MetValues.{beside_histories, beside_several, flag_in, form_in, form_is, form_named, given_is, histories_at, is_given, number_of, rule_words, several_at, task_named, value_at}
+use Rattle.command_line.proofs.MetTasks.{asked_is, flag_there, met_is, number_there, unmet}
 
 -- it is met as the task that its name and its values tell
 pub as_named : (name : Text) (rows : List Row) (task : Task) → IsMet (Some (name, rows)) task → IsMet (Some (name, rows)) (task_named name rows)

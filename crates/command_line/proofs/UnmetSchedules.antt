@@ -3,9 +3,9 @@ use Rattle.std.specs.Prelude.{unwrap_or}
 use Rattle.std.proofs.Common.{arith, ℕ, Bool, true, false, ◌||◌, cond, subst, ap, sym, codes, List, [], Option, Some, None, ◌≡◌, ◌∙◌}
 use Rattle.std.proofs.lemmas.Bool.{false≢true}
 use Rattle.clap.specs.Words.{Row, Text, first_of, one_of}
-use Rattle.command_line.specs.rule.Program.{flag_text, IsMet, IsNumber}
+use Rattle.command_line.specs.rule.Met.{flag_text, IsMet, IsNumber}
 use Rattle.command_line.specs.rule.Tasks.{Task, greatest_seed, most_states}
-use Rattle.command_line.proofs.CommandLine.{every_of, flag_in, given_is, is_given, seeds_of, value_at}
+use Rattle.command_line.proofs.MetValues.{every_of, flag_in, given_is, is_given, seeds_of, value_at}
 use Rattle.command_line.proofs.Unmet.{as_named, nowhere, NoFlag, NoNumber, Unmet}
 
 -- what is explored, of seeds or not

@@ -11,7 +11,7 @@ use Rattle.clap.specs.Walk.{at_row, default_rows, has_row, is_empty, more_values
 use Rattle.clap.specs.Words.{Row, Rule, Text}
 use Rattle.clap.specs.declared.builder.value_parser.Reading.{Reading}
 use Rattle.clap.specs.declared.parser.matches.ValueSource.TheVariants.{CommandLine, DefaultValue}
-use Rattle.command_line.specs.rule.Program.{flag_text}
+use Rattle.command_line.specs.rule.Met.{flag_text}
 use Rattle.command_line.specs.rule.Tasks.{flag_words}
 use Rattle.command_line.proofs.CommandWords.{path_row}
 

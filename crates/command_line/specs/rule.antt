@@ -3,3 +3,4 @@ pub mod JudgeTasks
 pub mod Program
 pub mod Words
 pub mod Kinds
+pub mod Met

@@ -8,6 +8,12 @@ use clap::builder::ValueParser;
 use clap::{Arg, ArgAction};
 use std::alloc::Global;
 
+/// The word that names a script.
+pub(crate) const SCRIPT: Argument<'static> = Argument::Word {
+    id: "SCRIPT",
+    help: "The script: a file of lines, or - for standard input",
+};
+
 /// The flag that asks for JSON in the place of words.
 pub(crate) const JSON: Argument<'static> = Argument::Flag {
     name: "json",

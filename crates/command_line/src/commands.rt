@@ -1,37 +1,26 @@
 //! The commands of the program.
 ghost use Rattle.std.specs.Prelude.{◌≡◌, fold, IfOk};
 ghost use Rattle.clap.specs.Words.{app_of};
-ghost use Rattle.command_line.specs.rule.Program.{bare_app, check_app, explore_app, judge_app, program_app, run_app, schedule_app, strace_app, threads_app};
+ghost use Rattle.command_line.specs.rule.Program.{bare_app, check_app, program_app, run_app, strace_app, threads_app};
 ghost use Rattle.command_line.specs.code.Table.{app_given, with_given};
 
-use crate::argument::{Argument, JSON};
+use crate::argument::{Argument, JSON, SCRIPT};
+use crate::explore_commands::{explore_command, schedule_command};
 use crate::journal_commands::{
     audit_command, explain_command, history_command, open_command, picture_command, state_command,
     stats_command,
 };
-use crate::notes::{
-    CHECK_NOTES, EXPLORE_NOTES, JUDGE_NOTES, PROGRAM_NOTES, RUN_NOTES, SCHEDULE_NOTES,
-    STRACE_NOTES, THREADS_NOTES, VERSION,
-};
+use crate::judge_command::judge_command;
+use crate::notes::{CHECK_NOTES, PROGRAM_NOTES, RUN_NOTES, STRACE_NOTES, THREADS_NOTES, VERSION};
 use crate::subcommand::{Subcommand, bare_command};
 use crate::values::{GREATEST_SEED, MOST_NODES};
 use clap::Command;
 use std::alloc::{AllocError, Global};
 
-const SCRIPT: Argument<'static> = Argument::Word {
-    id: "SCRIPT",
-    help: "The script: a file of lines, or - for standard input",
-};
-
 const FILE: Argument<'static> = Argument::Value {
     id: "FILE",
     long: "journal",
     help: "Write the journal of the run to FILE",
-};
-
-const FAILURES: Argument<'static> = Argument::Flag {
-    name: "failures",
-    help: "Let nodes and servers fail",
 };
 
 const CHECK: &[Argument<'static>] = &[
@@ -116,111 +105,6 @@ const STRACE: &[Argument<'static>] = &[
     Argument::Flag {
         name: "history",
         help: "Make a history of clients, for 'lockreplay judge'",
-    },
-];
-
-const EXPLORE: &[Argument<'static>] = &[
-    SCRIPT,
-    Argument::Number {
-        id: "COUNT",
-        long: "seeds",
-        default: "100",
-        least: 1,
-        greatest: GREATEST_SEED,
-        help: "How many schedules, up to 4294967295",
-    },
-    Argument::Number {
-        id: "N",
-        long: "first",
-        default: "1",
-        least: 0,
-        greatest: GREATEST_SEED,
-        help: "The seed of the first schedule, up to 4294967295",
-    },
-    FAILURES,
-    JSON,
-    Argument::Flag {
-        name: "all",
-        help: "Go through every schedule, instead of those of seeds",
-    },
-    Argument::Number {
-        id: "LOSSES",
-        long: "losses",
-        default: "0",
-        least: 0,
-        greatest: GREATEST_SEED,
-        help: "With --all: how many messages may be lost",
-    },
-    Argument::Number {
-        id: "REPEATS",
-        long: "repeats",
-        default: "0",
-        least: 0,
-        greatest: GREATEST_SEED,
-        help: "With --all: how often messages may come again",
-    },
-    Argument::Number {
-        id: "STATES",
-        long: "states",
-        default: "1000000",
-        least: 1,
-        greatest: GREATEST_SEED,
-        help: "With --all: after how many states to give up",
-    },
-];
-
-const SCHEDULE: &[Argument<'static>] = &[
-    SCRIPT,
-    Argument::Number {
-        id: "N",
-        long: "seed",
-        default: "1",
-        least: 0,
-        greatest: GREATEST_SEED,
-        help: "The seed of the schedule, up to 4294967295",
-    },
-    FAILURES,
-];
-
-const JUDGE: &[Argument<'static>] = &[
-    Argument::Words {
-        id: "HISTORY",
-        help: "The history: a file of lines, or - for standard input",
-    },
-    Argument::Number {
-        id: "N",
-        long: "steps",
-        default: "10000000",
-        least: 1,
-        greatest: GREATEST_SEED,
-        help: "How many tables of a file are looked at, up to 4294967295",
-    },
-    Argument::Value {
-        id: "FILE",
-        long: "explains",
-        help: "Say whether the order in FILE explains HISTORY",
-    },
-    Argument::Values {
-        id: "RULE",
-        long: "allow",
-        help: "Allow a difference from one table, as wait-drops",
-    },
-    Argument::Flag {
-        name: "order",
-        help: "Print an order of the calls that explains them",
-    },
-    Argument::Flag {
-        name: "go-on",
-        help: "Leave out what fits nowhere, and go on behind it",
-    },
-    Argument::Flag {
-        name: "stats",
-        help: "Print counts of calls and of tables",
-    },
-    JSON,
-    Argument::Flag {
-        name: "picture",
-        help: "Draw the first call that fits nowhere, as SVG",
     },
 ];
 
@@ -329,38 +213,5 @@ fn strace_command<'a>() -> Subcommand<'a>
         about: "Turn the output of strace into a script or a history",
         notes: STRACE_NOTES,
         arguments: STRACE,
-    }
-}
-
-fn explore_command<'a>() -> Subcommand<'a>
-    ensures { app_given result ≡ explore_app }
-{
-    Subcommand {
-        name: "explore",
-        about: "Run a script under many schedules and tell the outcomes",
-        notes: EXPLORE_NOTES,
-        arguments: EXPLORE,
-    }
-}
-
-fn schedule_command<'a>() -> Subcommand<'a>
-    ensures { app_given result ≡ schedule_app }
-{
-    Subcommand {
-        name: "schedule",
-        about: "Print the script of a schedule",
-        notes: SCHEDULE_NOTES,
-        arguments: SCHEDULE,
-    }
-}
-
-fn judge_command<'a>() -> Subcommand<'a>
-    ensures { app_given result ≡ judge_app }
-{
-    Subcommand {
-        name: "judge",
-        about: "Judge what clients of a lock manager saw",
-        notes: JUDGE_NOTES,
-        arguments: JUDGE,
     }
 }

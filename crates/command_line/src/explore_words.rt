@@ -2,7 +2,7 @@
 ghost use Rattle.std.specs.Prelude.{◌≡◌, codes, false, true, Some};
 ghost use Rattle.clap.specs.Words.{found_of, one_of, rows_of};
 ghost use Rattle.command_line.specs.rule.Kinds.{IsLineOf};
-ghost use Rattle.command_line.specs.rule.Program.{flag_text};
+ghost use Rattle.command_line.specs.rule.Met.{flag_text};
 
 use crate::command_line::CommandLine;
 use crate::values::{GREATEST_SEED, MOST_STATES, flag_in, number_in};

@@ -24,8 +24,8 @@ pub enum Refusal {
 }
 
 impl Refusal {
-    // What the parser's error says.
-    pub(crate) fn of(alloc: Global, error: &clap::Error) -> Refusal
+    /// What the parser's error says.
+    pub fn of(alloc: Global, error: &clap::Error) -> Refusal
         ensures { IsOfKind (kind_of error.now) result }
     {
         if error.kind() == ErrorKind::OutOfMemory {

@@ -2,7 +2,7 @@
 ghost use Rattle.std.specs.Prelude.{◌≡◌, codes, false, true, map, option_map, IfOk, Some};
 ghost use Rattle.clap.specs.Words.{all_of, found_of, one_of, rows_of};
 ghost use Rattle.command_line.specs.rule.Kinds.{IsLineOf};
-ghost use Rattle.command_line.specs.rule.Program.{flag_text};
+ghost use Rattle.command_line.specs.rule.Met.{flag_text};
 ghost use Rattle.command_line.specs.rule.Tasks.{MayRecord};
 
 use crate::command_line::CommandLine;

@@ -4,7 +4,8 @@ use Rattle.std.specs.Global.{Global}
 use Rattle.clap.specs.Words.{IsAmong, Row, Text, fault_of}
 use Rattle.clap.specs.declared.error.kind.ErrorKind.{ErrorKind}
 use Rattle.clap.specs.declared.error.kind.ErrorKind.TheVariants.{OutOfMemory}
-use Rattle.command_line.specs.rule.Program.{program_app, flag_text, IsMet, IsNumber, MayBeNumber}
+use Rattle.command_line.specs.rule.Met.{flag_text, IsMet, IsNumber, MayBeNumber}
+use Rattle.command_line.specs.rule.Program.{program_app}
 use Rattle.command_line.specs.rule.JudgeTasks.{rule_text}
 use Rattle.command_line.specs.rule.Tasks.{Task, format_text, is_json, is_quiet, task_of}
 use Rattle.command_line.specs.rule.Words.{AsksForNothing, IsShown}

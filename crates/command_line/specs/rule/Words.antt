@@ -4,7 +4,8 @@ use Rattle.std.specs.List.{All}
 use Rattle.clap.specs.Words.{IsAmong, Text, fault_of, subcommand_of}
 use Rattle.clap.specs.declared.error.kind.ErrorKind.{ErrorKind}
 use Rattle.clap.specs.declared.error.kind.ErrorKind.TheVariants.{DisplayHelp, DisplayVersion}
-use Rattle.command_line.specs.rule.Program.{program_app, IsMet}
+use Rattle.command_line.specs.rule.Met.{IsMet}
+use Rattle.command_line.specs.rule.Program.{program_app}
 use Rattle.command_line.specs.rule.Tasks.{Task, HasPlainWords, paths_of, plain_words_of}
 use Rattle.command_line.specs.declared.refusal.Refusal.{Refusal}
 use Rattle.command_line.specs.declared.refusal.Refusal.TheVariants.{Help, Wrong, NotText, NoMemory}

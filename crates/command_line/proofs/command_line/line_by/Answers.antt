@@ -2,7 +2,7 @@ use Rattle.std.proofs.Common.{ap, sym, subst, inl, inr, ◌∙◌, map, Option, 
 use Rattle.std.proofs.lemmas.Result.{err_from_is_err_and}
 use Rattle.clap.specs.Words.{App, HasKind, Row, Text, fault_of, is_simple, is_simple_and_free, subcommand_of, subcommand_rows_of}
 use Rattle.command_line.specs.rule.Kinds.{IsLineOf}
-use Rattle.command_line.specs.rule.Program.{IsMet}
+use Rattle.command_line.specs.rule.Met.{IsMet}
 use Rattle.command_line.specs.rule.Tasks.{task_of}
 use Rattle.command_line.proofs.CommandLine.{fails_so, not_shown}
 use Rattle.command_line.proofs.PlainWords.{is_free_program, is_simple_program}

@@ -1,6 +1,6 @@
 use Rattle.std.proofs.Common.{rules, ap, codes, Bool, None, Some, [], ◌∷◌, ◌≡◌, ◌∙◌, ◌||◌}
 use Rattle.clap.specs.Words.{found_of, rows_of}
-use Rattle.command_line.specs.rule.Program.{flag_text}
+use Rattle.command_line.specs.rule.Met.{flag_text}
 use Rattle.command_line.proofs.UnmetSchedules.{no_failures_of_all, no_first_of_all, no_flags_of_all, no_json_of_all, no_losses_of_all, no_repeats_of_all, no_script_of_all, no_seeds_of_all, no_states_of_all, only_number}
 use Rattle.command_line.proofs.Tables.{no_value, value_is}
 use Rattle.command_line.proofs.explore_words.all_in.Goals as goal
