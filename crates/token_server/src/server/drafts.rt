@@ -58,12 +58,11 @@ impl Server {
         Some(sketch.changed.as_ref()?.node)
     }
 
-    // The draft of a step: what the event changes before the server serves. It is made where the whole edit is to be,
-    // since that is large.
-    fn draft(&self, sketch: &Sketch, alloc: Global) -> Result<Box<ServerEdit>, AllocError>
+    // The draft of a step: what the event changes before the server serves.
+    fn draft(&self, sketch: &Sketch, alloc: Global) -> Result<ServerEdit, AllocError>
         requires in_cluster { IfSome sketch.now.changed (λ c. IsNumber self.now.shape.nodes c.node) }
         requires orderly { IsOrderly (sketched self.now sketch.now) }
-        ensures { IfOk result (λ draft. IsDrafted self.now sketch.now draft.value) }
+        ensures { IfOk result (λ draft. IsDrafted self.now sketch.now draft) }
     {
         let rows = self.known_nodes.edit(alloc, &sketch.changed)?;
         let awaits = self.awaits_after(&rows);
@@ -73,7 +72,7 @@ impl Server {
             ended: sketch.ended,
         };
         let admitted = self.admit(alloc, awaits, &gone, &sketch.moved)?;
-        let edit = ServerEdit {
+        Ok(ServerEdit {
             ats: self.awaited(alloc, &rows, &sketch.changed)?,
             fresh: self.hold(alloc, &rows, admitted.as_slice())?,
             rows,
@@ -84,8 +83,7 @@ impl Server {
             active_spare: None,
             queue_spare: None,
             waiting_spare: None,
-        };
-        Ok(Box::new(alloc, edit)?)
+        })
     }
 
     // Serves the active requests in order. A request is granted, unless another node's row conflicts: then the token
@@ -97,13 +95,19 @@ impl Server {
         ensures fits { IfOk result (λ r. Fits self.now r.0) }
         ensures err { IfErr result (λ e. e ≢ StepError.NoMemory → serve (sketched self.now sketch.now) ≡ Err e) }
     {
-        let mut edit = self.draft(sketch, alloc)?;
-        let (given, commands) = self.serve_draft(&edit, sketch, alloc)?;
-        edit.active_spare = self.active.spare_for(edit.fresh.as_slice())?;
-        edit.queue_spare = self.queue.spare_for(edit.moved.many(&self.waiting))?;
-        edit.waiting_spare = self.waiting.spare_for(edit.moved.put_off())?;
-        edit.given = given;
-        Ok((edit, commands))
+        let draft = self.draft(sketch, alloc)?;
+        let (given, commands) = self.serve_draft(&draft, sketch, alloc)?;
+        let active_spare = self.active.spare_for(draft.fresh.as_slice())?;
+        let queue_spare = self.queue.spare_for(draft.moved.many(&self.waiting))?;
+        let waiting_spare = self.waiting.spare_for(draft.moved.put_off())?;
+        let edit = ServerEdit {
+            given,
+            active_spare,
+            queue_spare,
+            waiting_spare,
+            ..draft
+        };
+        Ok((Box::new(alloc, edit)?, commands))
     }
 
     // Serves, and puts these messages before those that serving sends.

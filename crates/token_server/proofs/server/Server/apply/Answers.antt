@@ -36,14 +36,14 @@ push_all-requires c =
     let same = c.end_one.ensures.room ∙ c.forget.ensures.room ∙ c.wait_for.ensures.room in
     omega (arith, many, room, same)
 
-pub refill-2-requires : goal.refill-2-requires
-refill-2-requires c =
+pub refill-requires-2 : goal.refill-requires-2
+refill-requires-2 c =
     let v = c.into_inner-rows.result in
     let fits = parts-fit _ c.args.self.now c.args.change.edit v c.self.view_is c.into_inner-rows.ensures c.requires in
     room-none _ v.waiting_spare _ fits.put_off
 
-pub refill-3-requires : goal.refill-3-requires
-refill-3-requires c =
+pub refill-requires-3 : goal.refill-requires-3
+refill-requires-3 c =
     let v = c.into_inner-rows.result in
     let fits = parts-fit _ c.args.self.now c.args.change.edit v c.self.view_is c.into_inner-rows.ensures c.requires in
     room-none _ v.queue_spare _ fits.queued

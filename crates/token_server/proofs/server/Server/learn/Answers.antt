@@ -37,10 +37,10 @@ returns-clause-ok c =
     let s = server_state p in
     let nodes : c.nodes.result ≡ c.args.self.now.shape.nodes = c.nodes.ensures.value ∙ ap (λ (q : ServerParts). q.shape.nodes) c.self.view_is in
     let within : is_within s.shape.nodes c.args.node ≡ true = and_from _ _ (le-leb 1 c.args.node (omega (arith, c.if-node-eq0.false))) (le-leb c.args.node c.args.self.now.shape.nodes (omega (arith, nodes, c.if-node-nodes.false))) in
-    let done : Done = sending_first c.new.result (serve (sketched p c.of-sketch.result)) in
+    let done : Done = sending_first c.nothing.result (serve (sketched p c.of-sketch.result)) in
     let rule : learn_rule s c.args.node c.args.incarnation ≡ done =
     ap (λ (b : Bool). let x : Done = cond (not b) (Err Stranger) (sending_first [] (serve (requeued (forgotten s c.args.node c.args.incarnation)))) in x) within
-    ∙ sym (λ i. sending_first (c.new.ensures i) (serve (sketched p (c.of-sketch.ensures i)))) in
+    ∙ sym (λ i. sending_first (c.nothing.ensures i) (serve (sketched p (c.of-sketch.ensures i)))) in
     IfOk-weaker c.serve_after.result (λ change. done ≡ Ok (planned p change.edit, change.outcome)) (λ change. learn_rule s c.args.node c.args.incarnation ≡ Ok (planned p change.edit, change.outcome)) (λ change is. rule ∙ is) c.serve_after.ensures.ok
 
 pub returns-clause-err : goal.returns-clause-err
@@ -49,8 +49,8 @@ returns-clause-err c =
     let s = server_state p in
     let nodes : c.nodes.result ≡ c.args.self.now.shape.nodes = c.nodes.ensures.value ∙ ap (λ (q : ServerParts). q.shape.nodes) c.self.view_is in
     let within : is_within s.shape.nodes c.args.node ≡ true = and_from _ _ (le-leb 1 c.args.node (omega (arith, c.if-node-eq0.false))) (le-leb c.args.node c.args.self.now.shape.nodes (omega (arith, nodes, c.if-node-nodes.false))) in
-    let done : Done = sending_first c.new.result (serve (sketched p c.of-sketch.result)) in
+    let done : Done = sending_first c.nothing.result (serve (sketched p c.of-sketch.result)) in
     let rule : learn_rule s c.args.node c.args.incarnation ≡ done =
     ap (λ (b : Bool). let x : Done = cond (not b) (Err Stranger) (sending_first [] (serve (requeued (forgotten s c.args.node c.args.incarnation)))) in x) within
-    ∙ sym (λ i. sending_first (c.new.ensures i) (serve (sketched p (c.of-sketch.ensures i)))) in
+    ∙ sym (λ i. sending_first (c.nothing.ensures i) (serve (sketched p (c.of-sketch.ensures i)))) in
     IfErr-weaker c.serve_after.result (λ e. e ≢ NoMemory → done ≡ Err e) (λ e. e ≢ NoMemory → learn_rule s c.args.node c.args.incarnation ≡ Err e) (λ e refused other. rule ∙ refused other) c.serve_after.ensures.err

@@ -29,22 +29,22 @@ pub returns-clause-state : goal.returns-clause-state
 returns-clause-state c =
     let p = c.args.self.now in
     let holds : IsReady (server_state p) p.active.held = subst (λ (q : ServerParts). IsReady (server_state q) q.active.held) c.self.view_is c.self.invariant.ready in
-    let done : Done = sending_first c.new.result (serve (sketched p c.moving.result)) in
+    let done : Done = sending_first c.nothing.result (serve (sketched p c.moving.result)) in
     IfOk-weaker c.serve_after.result (λ change. done ≡ Ok (planned p change.edit, change.outcome)) (λ change. planned p change.edit ≡ server_state p)
-    (λ change is. ap (λ (x : ServerState × Outcome). x.0) (same-done _ _ (sym is ∙ nothing-served p c.moving.result c.new.result c.moving.ensures c.new.ensures holds))) c.serve_after.ensures.ok
+    (λ change is. ap (λ (x : ServerState × Outcome). x.0) (same-done _ _ (sym is ∙ nothing-served p c.moving.result c.nothing.result c.moving.ensures c.nothing.ensures holds))) c.serve_after.ensures.ok
 
 pub returns-clause-outcome : goal.returns-clause-outcome
 returns-clause-outcome c =
     let p = c.args.self.now in
     let holds : IsReady (server_state p) p.active.held = subst (λ (q : ServerParts). IsReady (server_state q) q.active.held) c.self.view_is c.self.invariant.ready in
-    let done : Done = sending_first c.new.result (serve (sketched p c.moving.result)) in
+    let done : Done = sending_first c.nothing.result (serve (sketched p c.moving.result)) in
     IfOk-weaker c.serve_after.result (λ change. done ≡ Ok (planned p change.edit, change.outcome)) (λ change. change.outcome ≡ sending [])
-    (λ change is. ap (λ (x : ServerState × Outcome). x.1) (same-done _ _ (sym is ∙ nothing-served p c.moving.result c.new.result c.moving.ensures c.new.ensures holds))) c.serve_after.ensures.ok
+    (λ change is. ap (λ (x : ServerState × Outcome). x.1) (same-done _ _ (sym is ∙ nothing-served p c.moving.result c.nothing.result c.moving.ensures c.nothing.ensures holds))) c.serve_after.ensures.ok
 
 pub returns-clause-err : goal.returns-clause-err
 returns-clause-err c =
     let p = c.args.self.now in
     let holds : IsReady (server_state p) p.active.held = subst (λ (q : ServerParts). IsReady (server_state q) q.active.held) c.self.view_is c.self.invariant.ready in
-    let done : Done = sending_first c.new.result (serve (sketched p c.moving.result)) in
+    let done : Done = sending_first c.nothing.result (serve (sketched p c.moving.result)) in
     IfErr-weaker c.serve_after.result (λ e. e ≢ NoMemory → done ≡ Err e) (λ e. e ≡ NoMemory)
-    (λ e refused. never-refused e done _ refused (nothing-served p c.moving.result c.new.result c.moving.ensures c.new.ensures holds)) c.serve_after.ensures.err
+    (λ e refused. never-refused e done _ refused (nothing-served p c.moving.result c.nothing.result c.moving.ensures c.nothing.ensures holds)) c.serve_after.ensures.err

@@ -20,6 +20,6 @@ loop-known_node-preserved c =
     let next = outstanding-next c.args.self.now i known_node c.outstanding.result there c.outstanding.ensures in
     let with : (o : Option Message) → c.outstanding.result ≡ o → outstanding_to (rows_of c.args.self.now) (i + 1) ≡ past ++ cons_option o [] = λ o is. next ∙ ap (λ (x : Option Message). past ++ cons_option x []) is in
     elim c.match-outstanding.branch [
-      | in-Some+in_ok-push w ↦ w.commands-is ∙ w.in_ok-push.ensures.ok ∙ ap (λ (ms : List Message). ms ++ w.in-Some.command ∷ []) c.loop-known_node.invariant ∙ sym (with (Some w.in-Some.command) w.in-Some.is)
+      | in-Some+in_ok-push w ↦ w.commands-is ∙ w.in_ok-push.ensures ∙ ap (λ (ms : List Message). ms ++ w.in-Some.command ∷ []) c.loop-known_node.invariant ∙ sym (with (Some w.in-Some.command) w.in-Some.is)
       | in_default w ↦ w.commands-is ∙ c.loop-known_node.invariant ∙ sym (with None w.in_default.is ∙ append-nil past)
     ]

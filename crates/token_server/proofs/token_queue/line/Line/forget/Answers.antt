@@ -4,7 +4,7 @@ use Rattle.std.proofs.lemmas.List.{get_or_default}
 use Rattle.token_server.specs.declared.token_queue.token_request.TokenRequest.{TokenRequest}
 use Rattle.token_server.specs.code.Places.{request_at}
 use Rattle.token_server.proofs.LineLaws.{IsForgotten, IsForgotten-start, IsForgotten-taken, IsForgotten-stays, IsForgotten-none}
-use Rattle.token_server.proofs.token_queue.line.Line.forget.Goals.{in-Some+then-is_up_to, in-Some+else-is_up_to, in_default}
+use Rattle.token_server.proofs.token_queue.line.Line.forget.Goals.{in-Some-as_slice+then-is_up_to, in-Some-as_slice+else-is_up_to, in_default-as_slice}
 use Rattle.token_server.proofs.token_queue.line.Line.forget.Goals as goal
 
 pub loop-place-init : goal.loop-place-init
@@ -27,14 +27,14 @@ loop-place-preserved c =
     let so_far = c.loop-place.invariant in
     let low : place < length now.slots = omega (arith, so_far.slot_count, c.loop-place-test.true) in
     elim c.match-as_slice-place.branch [
-      | in-Some+then-is_up_to w ↦ rw w.self-inside-is
-          (IsForgotten-taken node incarnation c.args.self.now count now front place c.loop-place-test.true so_far w.in-Some.request w.take_out.new.self
-          (read c.as_slice.result.now now.slots place _ (Some w.in-Some.request) c.as_slice.ensures low w.in-Some.is)
+      | in-Some-as_slice+then-is_up_to w ↦ rw w.self-inside-is
+          (IsForgotten-taken node incarnation c.args.self.now count now front place c.loop-place-test.true so_far w.in-Some-as_slice.request w.take_out.new.self
+          (read c.as_slice.result.now now.slots place _ (Some w.in-Some-as_slice.request) c.as_slice.ensures low w.in-Some-as_slice.is)
           (sym w.is_up_to.ensures ∙ w.if-is_up_to.true) w.take_out.ensures.slots w.take_out.ensures.room)
-      | in-Some+else-is_up_to w ↦ rw w.self-inside-is
-          (IsForgotten-stays node incarnation c.args.self.now count now front place c.loop-place-test.true so_far w.in-Some.request
-          (read c.as_slice.result.now now.slots place _ (Some w.in-Some.request) c.as_slice.ensures low w.in-Some.is) (sym w.is_up_to.ensures ∙ w.if-is_up_to.false))
-      | in_default w ↦ rw w.self-inside-is
+      | in-Some-as_slice+else-is_up_to w ↦ rw w.self-inside-is
+          (IsForgotten-stays node incarnation c.args.self.now count now front place c.loop-place-test.true so_far w.in-Some-as_slice.request
+          (read c.as_slice.result.now now.slots place _ (Some w.in-Some-as_slice.request) c.as_slice.ensures low w.in-Some-as_slice.is) (sym w.is_up_to.ensures ∙ w.if-is_up_to.false))
+      | in_default-as_slice w ↦ rw w.self-inside-is
           (IsForgotten-none node incarnation c.args.self.now count now front place c.loop-place-test.true so_far
-          (read c.as_slice.result.now now.slots place _ None c.as_slice.ensures low w.in_default.is))
+          (read c.as_slice.result.now now.slots place _ None c.as_slice.ensures low w.in_default-as_slice.is))
     ]
