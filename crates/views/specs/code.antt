@@ -2,3 +2,4 @@ pub mod Index
 pub mod OpenIndexes
 pub mod Indexes
 pub mod Lanes
+pub mod HeldStretches
