@@ -46,6 +46,7 @@ behind_first (x ∷ xs) = xs
 
 -- a key that is there stays
 kept : (k j : ℕ) (ks : List ℕ) → Has k ks → Has k (insert_key nat_cmp ks j)
+unfolding behind_first
 kept k j [] there = absurd (let e = ap length there in omega (arith, e))
 kept k j (x ∷ xs) there = by (nat_cmp k x) refl there (kept k j xs)
   where
@@ -111,10 +112,7 @@ same_nodes ps = sym (all_nodes ps [])
 
 -- with one more piece only the stays of its node change
 more_of_node : (n : ℕ) (p : Piece) (ss : List Stay) → filter (is_stay_of n) (with_piece ss p) ≡ cond (is_of_node n p) (with_piece (filter (is_stay_of n) ss) p) (filter (is_stay_of n) ss)
-more_of_node n p [] = by (is_of_node n p)
-  where
-    by : (b : Bool) → cond b ((record { held = p.held; from = p.position; to = p.position }) ∷ []) [] ≡ cond b ((record { held = p.held; from = p.position; to = p.position }) ∷ []) []
-    by b = refl
+more_of_node n p [] = refl
 more_of_node n p (s ∷ ss) = by (goes_on p s) refl (more_of_node n p ss)
   where
     long : Stay
@@ -150,13 +148,13 @@ of_node n (p ∷ ps) ss = of_node n ps (with_piece ss p) ∙ ap (λ (ts : List S
 -- a stretch that is held by pieces has the tracks of those of them that have all its bytes
 same_tracks : (own : List Piece) (s : ℕ × ℕ) → tracks_of_held (held_by own s) ≡ tracks_of_stretch own s
 unfolding tracks_of_held tracks_of_stretch shared_by
-same_tracks own s = (λ k. map (λ (r : ℕ × ℕ). Share (shares k r)) (enumerate_from 0 (same_nodes over k)))
+same_tracks own s = (λ k. map (λ (r : ℕ × ℕ). Share (shares r k)) (enumerate_from 0 (same_nodes over k)))
   where
     over : List Piece
     over = filter (covers s.0 s.1) own
 
-    shares : (λ (r : ℕ × ℕ). share_in (held_by own s) r.0 r.1) ≡ (λ (r : ℕ × ℕ). share s.0 s.1 over r.0 r.1)
-    shares k r = record { lo = s.0; hi = s.1; node = r.1; leads = r.0 == 0; stays = of_node r.1 over [] k }
+    shares : (r : ℕ × ℕ) → share_in (held_by own s) r.0 r.1 ≡ share s.0 s.1 over r.0 r.1
+    shares r k = record { lo = s.0; hi = s.1; node = r.1; leads = r.0 == 0; stays = of_node r.1 over [] k }
 
 -- so have all of them
 pub all_tracks : (own : List Piece) (ss : List (ℕ × ℕ)) → flat_map tracks_of_held (map (held_by own) ss) ≡ flat_map (tracks_of_stretch own) ss

@@ -1,5 +1,5 @@
 -- Stretches to which pieces are added.
-use Rattle.std.proofs.Common.{◌≡◌, ℕ, zero, suc, ◌+◌, ◌-◌, ◌<◌, ◌≤◌, Bool, true, false, cond, ◌&&◌, List, [], ◌∷◌, ◌++◌, filter, fold, map, length, get_or, take, drop, slice_set, refl, sym, ◌∙◌, ap, subst, nat_cmp, arith}
+use Rattle.std.proofs.Common.{◌≡◌, ℕ, zero, suc, ◌+◌, ◌-◌, ◌<◌, ◌≤◌, Bool, true, false, cond, ◌&&◌, List, [], ◌∷◌, ◌++◌, filter, fold, map, length, get_or, take, drop, slice_set, refl, sym, ◌∙◌, ap, subst, add-one, nat_cmp, arith}
 use Rattle.std.proofs.lemmas.Bool.Decides.{nat_tests}
 use Rattle.std.specs.List.Sorted.{IsNonDecreasingBy, IsStrictlySortedBy}
 use Rattle.std.specs.Prelude.{nat_le}
@@ -106,12 +106,15 @@ has_all p h after before =
     ap (λ (b : Bool). cond b (with_whole p h) h) has
 
 -- those that begin below the piece stay
-pub front_stays : (p : Piece) (hs : List HeldFields) (n : ℕ) → ((k : ℕ) (d : HeldFields) → k < n → (get_or hs k d).lo < p.span.lo) → map (with_held p) (take n hs) ++ drop n hs ≡ hs
-front_stays p hs zero below = refl
-front_stays p [] (suc n) below = refl
-front_stays p (h ∷ hs) (suc n) below =
+front_same : (p : Piece) (hs : List HeldFields) (n : ℕ) → ((k : ℕ) (d : HeldFields) → k < n → (get_or hs k d).lo < p.span.lo) → map (with_held p) (take n hs) ++ drop n hs ≡ hs
+front_same p hs zero below = refl
+front_same p [] (suc n) below = refl
+front_same p (h ∷ hs) (suc n) below =
     ap (λ (g : HeldFields). g ∷ (map (with_held p) (take n hs) ++ drop n hs)) (begins_behind p h (below 0 h (omega arith)))
-    ∙ ap (λ (gs : List HeldFields). h ∷ gs) (front_stays p hs n (λ k d lt. below (suc k) d (omega (arith, lt))))
+    ∙ ap (λ (gs : List HeldFields). h ∷ gs) (front_same p hs n (λ k d lt. below (suc k) d (omega (arith, lt))))
+
+pub front_stays : (p : Piece) (hs xs : List HeldFields) (n lo : ℕ) → xs ≡ hs → lo ≡ p.span.lo → ((k : ℕ) (d : HeldFields) → k < n → (get_or xs k d).lo < lo) → map (with_held p) (take n hs) ++ drop n hs ≡ hs
+front_stays p hs xs n lo same is below = front_same p hs n (λ k d lt. subst (λ (gs : List HeldFields). (get_or gs k d).lo < p.span.lo) same (subst (λ (b : ℕ). (get_or xs k d).lo < b) is (below k d lt)))
 
 -- where one ends behind the piece, it and those behind it stay
 rest_stays : (p : Piece) (h : HeldFields) (hs : List HeldFields) → Ascend (h ∷ hs) → p.span.hi < h.hi → map (with_held p) (h ∷ hs) ≡ h ∷ hs
@@ -126,13 +129,6 @@ back_stays p [] n h up lt is early = absurd (omega (arith, lt))
 back_stays p (g ∷ hs) zero h up lt is early = sym (rest_stays p g hs up (subst (λ (f : HeldFields). p.span.hi < f.hi) is early))
 back_stays p (g ∷ hs) (suc n) h up lt is early = ap (λ (gs : List HeldFields). with_held p g ∷ gs) (back_stays p hs n h (up_rest g hs up) (omega (arith, lt)) is early)
 
--- those up to a place are done
-pub none_left : (p : Piece) (hs : List HeldFields) (n : ℕ) → length hs ≤ n → map (with_held p) (take n hs) ++ drop n hs ≡ map (with_held p) hs
-none_left p [] zero all = refl
-none_left p [] (suc n) all = refl
-none_left p (h ∷ hs) zero all = absurd (omega (arith, all))
-none_left p (h ∷ hs) (suc n) all = ap (λ (gs : List HeldFields). with_held p h ∷ gs) (none_left p hs n (omega (arith, all)))
-
 -- the one at the place is as it was
 pub at_place : (p : Piece) (hs : List HeldFields) (n : ℕ) (d : HeldFields) → n < length hs → get_or (map (with_held p) (take n hs) ++ drop n hs) n d ≡ get_or hs n d
 at_place p [] n d lt = absurd (omega (arith, lt))
@@ -140,11 +136,22 @@ at_place p (h ∷ hs) zero d lt = refl
 at_place p (h ∷ hs) (suc n) d lt = at_place p hs n d (omega (arith, lt))
 
 -- one more is done
-pub one_more : (p : Piece) (hs : List HeldFields) (n : ℕ) (d : HeldFields) → n < length hs → p.span.lo ≤ (get_or hs n d).lo → (get_or hs n d).hi ≤ p.span.hi →
+one_done : (p : Piece) (hs : List HeldFields) (n : ℕ) (d : HeldFields) → n < length hs → p.span.lo ≤ (get_or hs n d).lo → (get_or hs n d).hi ≤ p.span.hi →
+    slice_set (map (with_held p) (take n hs) ++ drop n hs) n (with_whole p (get_or hs n d)) ≡ map (with_held p) (take (suc n) hs) ++ drop (suc n) hs
+one_done p [] n d lt after before = absurd (omega (arith, lt))
+one_done p (h ∷ hs) zero d lt after before = ap (λ (g : HeldFields). g ∷ hs) (sym (has_all p h after before))
+one_done p (h ∷ hs) (suc n) d lt after before = ap (λ (gs : List HeldFields). with_held p h ∷ gs) (one_done p hs n d (omega (arith, lt)) after before)
+
+pub one_more : (p : Piece) (hs xs : List HeldFields) (first n lo : ℕ) (d : HeldFields) → xs ≡ hs → lo ≡ p.span.lo → ((k : ℕ) (e : HeldFields) → first ≤ k → k < length xs → lo ≤ (get_or xs k e).lo) → first ≤ n → n < length hs → (get_or hs n d).hi ≤ p.span.hi →
     slice_set (map (with_held p) (take n hs) ++ drop n hs) n (with_whole p (get_or hs n d)) ≡ map (with_held p) (take (n + 1) hs) ++ drop (n + 1) hs
-one_more p [] n d lt after before = absurd (omega (arith, lt))
-one_more p (h ∷ hs) zero d lt after before = ap (λ (g : HeldFields). g ∷ hs) (sym (has_all p h after before))
-one_more p (h ∷ hs) (suc n) d lt after before = ap (λ (gs : List HeldFields). with_held p h ∷ gs) (one_more p hs n d (omega (arith, lt)) after before)
+one_more p hs xs first n lo d same is others from lt before =
+    one_done p hs n d lt after before ∙ ap (λ (m : ℕ). map (with_held p) (take m hs) ++ drop m hs) (sym (add-one n))
+  where
+    there : n < length xs
+    there = subst (λ (gs : List HeldFields). n < length gs) (sym same) lt
+
+    after : p.span.lo ≤ (get_or hs n d).lo
+    after = subst (λ (gs : List HeldFields). p.span.lo ≤ (get_or gs n d).lo) same (subst (λ (b : ℕ). b ≤ (get_or xs n d).lo) is (others n d from there))
 
 -- ---- all pieces
 
