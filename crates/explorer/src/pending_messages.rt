@@ -12,7 +12,7 @@ pub(crate) struct PendingMessage {
 /// The messages that may come, and how many were sent by then.
 #[derive(Drop)]
 pub(crate) struct PendingMessages {
-    letters: Vec<PendingMessage>,
+    messages: Vec<PendingMessage>,
     sent: usize,
 }
 
@@ -20,19 +20,19 @@ impl PendingMessages {
     /// None.
     pub(crate) fn new(alloc: Global) -> PendingMessages {
         PendingMessages {
-            letters: Vec::new(alloc),
+            messages: Vec::new(alloc),
             sent: 0,
         }
     }
 
     /// How many there are.
     pub(crate) fn len(&self) -> usize {
-        self.letters.len()
+        self.messages.len()
     }
 
-    /// All that were sent before these so many are settled.
+    /// So many were sent, and all are settled: none of them may come.
     pub(crate) fn settle(&mut self, sent: usize) {
-        self.letters.clear();
+        self.messages.clear();
         self.sent = sent;
     }
 
@@ -40,7 +40,7 @@ impl PendingMessages {
     pub(crate) fn see(&mut self, sent: usize) -> Result<(), AllocError> {
         for index in self.sent..sent {
             let number = u32::try_from(index).unwrap_or(0).saturating_add(1);
-            self.letters.push(PendingMessage {
+            self.messages.push(PendingMessage {
                 number,
                 is_repeat: false,
             })?;
@@ -51,12 +51,12 @@ impl PendingMessages {
 
     /// Takes out the message at the index, if there is one; the last comes to its place.
     pub(crate) fn take(&mut self, index: usize) -> Option<PendingMessage> {
-        take(&mut self.letters, index)
+        take(&mut self.messages, index)
     }
 
     /// The message of this number, which comes, may come again.
     pub(crate) fn repeat(&mut self, number: u32) -> Result<(), AllocError> {
-        self.letters.push(PendingMessage {
+        self.messages.push(PendingMessage {
             number,
             is_repeat: true,
         })?;

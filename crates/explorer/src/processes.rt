@@ -93,48 +93,63 @@ impl Processes {
     pub(crate) fn see(&mut self, entry: &Entry) -> Result<bool, AllocError> {
         match entry.event() {
             Event::AtNode(node, NodeInput::Call { pid, .. }) => {
-                if let Some(place) = self.places.get(&(*node, *pid)).copied() {
-                    self.set_open(place, entry.call())?;
-                }
+                self.see_call(*node, *pid, entry)?;
             }
             Event::Member(MemberEvent::Declare { node }) => self.end_all(*node)?,
             _ => {}
         }
         match entry.reply() {
-            Some(told) => self.end(&told.0),
+            Some(told) => self.see_reply(&told.0),
             None => Ok(false),
         }
+    }
+
+    // The entry makes a call of the process.
+    fn see_call(&mut self, node: u8, pid: u16, entry: &Entry) -> Result<(), AllocError> {
+        let Some(place) = self.places.get(&(node, pid)).copied() else {
+            return Ok(());
+        };
+        self.end(place)?;
+        match entry.call() {
+            Some(call) => self.begin(place, &call),
+            None => Ok(()),
+        }
+    }
+
+    // The call has its reply. Whether it was open.
+    fn see_reply(&mut self, call: &CallId) -> Result<bool, AllocError> {
+        let Some(place) = self.callers.get(call).copied() else {
+            return Ok(false);
+        };
+        self.end(place)?;
+        Ok(true)
     }
 
     // No call of the node's processes is open.
     fn end_all(&mut self, node: u8) -> Result<(), AllocError> {
         for place in 0..self.parts.len() {
             if self.node_at(place) == Some(node) {
-                self.set_open(place, None)?;
+                self.end(place)?;
             }
         }
         Ok(())
     }
 
-    // The call is open no more. Whether it was.
-    fn end(&mut self, call: &CallId) -> Result<bool, AllocError> {
-        let Some(place) = self.callers.get(call).copied() else {
-            return Ok(false);
-        };
-        self.set_open(place, None)?;
-        Ok(true)
+    // The call of the process at the place is open.
+    fn begin(&mut self, place: usize, call: &CallId) -> Result<(), AllocError> {
+        self.callers.insert(*call, place)?;
+        if let Some(part) = self.parts.get_mut(place) {
+            part.begin(call);
+        }
+        self.note(place)
     }
 
-    // This call of the process at the place is open, or none is.
-    fn set_open(&mut self, place: usize, open: Option<CallId>) -> Result<(), AllocError> {
-        let Some(part) = self.parts.get_mut(place) else {
-            return Ok(());
-        };
-        if let Some(ended) = part.set_open(open) {
+    // No call of the process at the place is open.
+    fn end(&mut self, place: usize) -> Result<(), AllocError> {
+        if let Some(part) = self.parts.get_mut(place)
+            && let Some(ended) = part.end()
+        {
             self.callers.remove(&ended);
-        }
-        if let Some(call) = open {
-            self.callers.insert(call, place)?;
         }
         self.note(place)
     }

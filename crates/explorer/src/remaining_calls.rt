@@ -53,11 +53,14 @@ impl RemainingCalls {
         self.calls.pop_front()
     }
 
-    /// This call is open, or none is. The one that was before.
-    pub(crate) fn set_open(&mut self, open: Option<CallId>) -> Option<CallId> {
-        let before = self.open;
-        self.open = open;
-        before
+    /// The call is open.
+    pub(crate) fn begin(&mut self, call: &CallId) {
+        self.open = Some(*call);
+    }
+
+    /// None is open. The one that was.
+    pub(crate) fn end(&mut self) -> Option<CallId> {
+        self.open.take()
     }
 
     /// The line by which its open call is tried again.

@@ -1,5 +1,5 @@
 -- The nodes of stays, and the stays of each.
-use Rattle.std.proofs.Common.{◌≡◌, ℕ, ◌<◌, ◌≤◌, Bool, true, false, cond, ◌==◌, List, [], ◌∷◌, filter, fold, flat_map, map, length, refl, sym, ◌∙◌, ap, subst, eqb-true, nat_cmp, Ordering, Less, Equal, Greater, arith}
+use Rattle.std.proofs.Common.{◌≡◌, ℕ, ◌≤◌, Bool, true, false, cond, ◌==◌, List, [], ◌∷◌, filter, fold, flat_map, map, length, refl, sym, ◌∙◌, ap, subst, eqb-true, nat_cmp, Ordering, Less, Equal, Greater, arith}
 use Rattle.std.specs.BTreeSet.{insert_key}
 use Rattle.std.specs.List.{enumerate_from}
 use Rattle.std.specs.Ordering.{match_ordering}

@@ -4,7 +4,6 @@ use Rattle.std.proofs.lemmas.Bool.Decides.{nat_tests}
 use Rattle.std.specs.List.Sorted.{IsNonDecreasingBy, IsStrictlySortedBy}
 use Rattle.std.specs.Prelude.{nat_le}
 use Rattle.views.specs.declared.pictures.piece.Piece.{Piece}
-use Rattle.views.specs.declared.pictures.stay.Stay.{Stay}
 use Rattle.views.specs.code.HeldStretches.{Ascend, HeldFields, all_with, held_by, unheld, with_held, with_whole}
 use Rattle.views.specs.rule.Pieces.{covers}
 use Rattle.views.specs.rule.Shares.{with_piece}

@@ -1,4 +1,4 @@
-use Rattle.std.proofs.Common.{◌≡◌, ℕ, List, fold, map, sym, ◌∙◌, ap, subst}
+use Rattle.std.proofs.Common.{ℕ, List, fold, map, sym, ◌∙◌, ap, subst}
 use Rattle.views.specs.code.HeldStretches.{Ascend, HeldFields, all_with, held_by, unheld}
 use Rattle.views.specs.rule.Tracks.{stretches}
 use Rattle.views.proofs.StretchWalks.{all_held, made_up}
