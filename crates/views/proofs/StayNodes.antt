@@ -11,7 +11,6 @@ use Rattle.views.specs.declared.pictures.piece.Piece.{Piece}
 use Rattle.views.specs.declared.pictures.stay.Stay.{Stay}
 use Rattle.views.specs.declared.pictures.token_or_lock.TokenOrLock.{TokenOrLock}
 use Rattle.views.specs.declared.pictures.token_or_lock.TokenOrLock.TheVariants.{Token, Lock}
-use Rattle.views.specs.declared.pictures.track.Track.{Track}
 use Rattle.views.specs.declared.pictures.track.Track.TheVariants.{Share}
 use Rattle.views.specs.code.HeldStretches.{held_by, is_stay_of, share_in, stay_nodes, tracks_of_held}
 use Rattle.views.specs.rule.Pieces.{covers, is_of_node, node_of, same_held}

@@ -1,5 +1,5 @@
 -- Stretches to which pieces are added.
-use Rattle.std.proofs.Common.{◌≡◌, ℕ, zero, suc, ◌+◌, ◌-◌, ◌<◌, ◌≤◌, Bool, true, false, cond, ◌&&◌, List, [], ◌∷◌, ◌++◌, filter, fold, map, length, get_or, take, drop, slice_set, refl, sym, ◌∙◌, ap, subst, add-one, nat_cmp, arith}
+use Rattle.std.proofs.Common.{◌≡◌, ℕ, zero, suc, ◌+◌, ◌<◌, ◌≤◌, Bool, true, false, cond, ◌&&◌, List, [], ◌∷◌, ◌++◌, filter, fold, map, length, get_or, take, drop, slice_set, refl, sym, ◌∙◌, ap, subst, add-one, nat_cmp, arith}
 use Rattle.std.proofs.lemmas.Bool.Decides.{nat_tests}
 use Rattle.std.specs.List.Sorted.{IsNonDecreasingBy, IsStrictlySortedBy}
 use Rattle.std.specs.Prelude.{nat_le}

@@ -1,4 +1,4 @@
-use Rattle.std.proofs.Common.{◌≡◌, ◌<◌, ◌≤◌, ◌++◌, ℕ, List, map, length, get_or, take, drop, slice_set, sym, ◌∙◌, ap, subst, arith}
+use Rattle.std.proofs.Common.{◌≡◌, ◌<◌, ◌≤◌, ◌++◌, List, map, length, get_or, take, drop, slice_set, sym, ◌∙◌, ap, subst, arith}
 use Rattle.views.specs.declared.pictures.piece.Piece.{Piece}
 use Rattle.views.specs.code.HeldStretches.{HeldFields, with_held, with_whole}
 use Rattle.views.proofs.StretchWalks.{at_place, back_stays, front_stays, one_more}
