@@ -3,3 +3,4 @@ pub mod OpenIndexes
 pub mod Indexes
 pub mod Lanes
 pub mod HeldStretches
+pub mod FirstWaits
