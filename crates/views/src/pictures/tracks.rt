@@ -37,7 +37,6 @@ fn files(alloc: Global, pieces: &[Piece]) -> Result<Vec<u64>, AllocError>
 }
 
 // A file, with those of the pieces that are its own, under its heading.
-#[tactic(auto, unfolding(crate::specs::rule::Tracks::tracks_of_file))]
 fn add_file(
     tracks: &mut Vec<Track>,
     alloc: Global,
