@@ -1,4 +1,5 @@
-//! The processes of a schedule, and which of them may go on. Each error is `AllocError`: a request for memory was refused.
+//! The processes of a schedule, and which of them may go on.
+//! Each error is `AllocError`: a request for memory was refused.
 use crate::remaining_calls::RemainingCalls;
 use lockscript::script_line::ScriptCommand;
 use messages::entry::Entry;

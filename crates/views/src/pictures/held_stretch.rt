@@ -1,4 +1,5 @@
-//! A stretch of a file, and how long nodes hold what of it. Each error is `AllocError`: a request for memory was refused.
+//! A stretch of a file, and how long nodes hold what of it.
+//! Each error is `AllocError`: a request for memory was refused.
 use crate::pictures::piece::Piece;
 use crate::pictures::stay::Stay;
 use std::alloc::{AllocError, Global};

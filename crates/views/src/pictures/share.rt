@@ -4,7 +4,8 @@ use crate::pictures::stay::Stay;
 use std::alloc::{AllocError, Global};
 use std::marker::Model;
 
-/// The bytes of a file from one to another, as far as one node holds them; whether it is the first node of that stretch; and how long it holds what.
+/// The bytes of a file from one to another, as far as one node holds them; whether it is the first node of that
+/// stretch; and how long it holds what.
 #[derive(Drop)]
 pub struct Share {
     pub(crate) lo: u64,

@@ -15,7 +15,8 @@ use std::collections::HashMap;
 // By a call: the wait of it behind the first entry behind which it is blocked.
 type FirstWaits = HashMap<CallId, BlockedWait>;
 
-/// Those of the calls that wait behind one of these entries, each with the lock that blocks it behind the first such entry.
+/// Those of the calls that wait behind one of these entries, each with the lock that blocks it behind the first such
+/// entry.
 pub(crate) fn waits(
     alloc: Global,
     holdings: &[Holdings],
