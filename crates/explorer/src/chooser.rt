@@ -1,14 +1,13 @@
 //! What comes next in a schedule.
 use crate::chance::Chance;
 use crate::failed::Failed;
-use crate::remaining_calls::{
-    RemainingCalls, add_call, count_ready, next_ready, push_retries, see_all,
-};
+use crate::opened_files::OpenedFiles;
+use crate::pending_messages::{PendingMessages, take};
+use crate::processes::Processes;
 use cluster_core::run::Run;
 use lockscript::script_line::{ScriptCommand, ScriptLine};
 use messages::entry::Entry;
 use messages::event::{Event, MemberEvent};
-use model::op::{Op, ProcessCall};
 use std::alloc::{AllocError, Global};
 use std::collections::VecDeque;
 
@@ -24,31 +23,22 @@ const FAILED: usize = 32;
 /// How often, one after the other, what has no answer is asked for again.
 const ROUNDS: u32 = 4;
 
-/// A message that may come.
-#[derive(Clone, Copy)]
-struct PendingMessage {
-    number: u32,
-    is_repeat: bool,
-}
-
 /// What comes next in a schedule of a script, by chance: which lines of the script are still to come, what each
 /// process is to do, which messages are under way, what else is to happen at some time, and what comes at once.
 #[derive(Drop)]
 pub(crate) struct Chooser<'a> {
-    alloc: Global,
     lines: &'a [ScriptLine],
     chance: Chance,
     // How many lines have had their turn, and whether all have.
     taken: usize,
     is_over: bool,
-    parts: Vec<RemainingCalls>,
-    files: Vec<u16>,
-    letters: Vec<PendingMessage>,
+    processes: Processes,
+    files: OpenedFiles,
+    letters: PendingMessages,
     due: Vec<ScriptCommand>,
     queue: VecDeque<ScriptCommand>,
-    // How many entries were seen, and how many messages were sent then.
+    // How many entries were seen.
     seen: usize,
-    sent: usize,
     // Whether the last line settles all messages.
     is_settling: bool,
     // How many rounds of asking again there were since the last reply.
@@ -68,18 +58,16 @@ impl<'a> Chooser<'a> {
         failures: bool,
     ) -> Chooser<'a> {
         Chooser {
-            alloc,
             lines,
             chance: Chance::new(seed),
             taken: 0,
             is_over: false,
-            parts: Vec::new(alloc),
-            files: Vec::new(alloc),
-            letters: Vec::new(alloc),
+            processes: Processes::new(alloc),
+            files: OpenedFiles::new(alloc),
+            letters: PendingMessages::new(alloc),
             due: Vec::new(alloc),
             queue: VecDeque::new(alloc),
             seen: 0,
-            sent: 0,
             is_settling: false,
             rounds: 0,
             failed: Failed::new(alloc),
@@ -104,40 +92,32 @@ impl<'a> Chooser<'a> {
 
     // Takes note of what is new in a run.
     fn see(&mut self, run: &Run) -> Result<(), AllocError> {
-        for entry in run.entries().iter().skip(self.seen) {
+        for entry in behind(run.entries(), self.seen) {
             self.see_entry(entry)?;
         }
         self.seen = run.entries().len();
         let sent = run.world().sent().len();
         if self.is_settling {
-            self.letters.clear();
-            self.sent = sent;
+            self.letters.settle(sent);
         }
-        note_sent(&mut self.letters, self.sent, sent)?;
-        self.sent = sent;
-        Ok(())
+        self.letters.see(sent)
     }
 
     // Takes note of an entry.
     fn see_entry(&mut self, entry: &Entry) -> Result<(), AllocError> {
-        if see_all(self.parts.as_mut_slice(), entry) {
+        if self.processes.see(entry)? {
             self.rounds = 0;
         }
         if let Event::Member(MemberEvent::Declare { node }) = entry.event() {
-            push_learns(
-                &mut self.due,
-                self.files.as_slice(),
-                *node,
-                entry.incarnation(),
-            )?;
+            self.files
+                .push_learns(&mut self.due, *node, entry.incarnation())?;
         }
         self.failed.see(entry)
     }
 
     // Puts what comes next into the queue, if anything does.
     fn fill(&mut self) -> Result<(), AllocError> {
-        let ready = count_ready(self.parts.as_slice());
-        if let Some(command) = self.choose(ready)? {
+        if let Some(command) = self.choose()? {
             self.queue.push_back(command)?;
             return Ok(());
         }
@@ -153,7 +133,8 @@ impl<'a> Chooser<'a> {
 
     // One of all that may come next: a call of a process that is ready, a message, or what is due. None where
     // there is nothing.
-    fn choose(&mut self, ready: usize) -> Result<Option<ScriptCommand>, AllocError> {
+    fn choose(&mut self) -> Result<Option<ScriptCommand>, AllocError> {
+        let ready = self.processes.count_ready();
         let letters = self.letters.len();
         let all = ready.saturating_add(letters).saturating_add(self.due.len());
         if all == 0 {
@@ -164,7 +145,7 @@ impl<'a> Chooser<'a> {
         }
         let index = self.chance.below(all);
         if index < ready {
-            return Ok(next_ready(self.parts.as_mut_slice(), index));
+            return self.processes.next_ready(index);
         }
         let index = index - ready;
         if index < letters {
@@ -176,7 +157,7 @@ impl<'a> Chooser<'a> {
     // The message at this index is delivered, or lost unless it was asked for again; where it is delivered, it
     // may come again later.
     fn letter(&mut self, index: usize) -> Result<Option<ScriptCommand>, AllocError> {
-        let Some(letter) = take(&mut self.letters, index) else {
+        let Some(letter) = self.letters.take(index) else {
             return Ok(None);
         };
         let message = letter.number;
@@ -187,10 +168,7 @@ impl<'a> Chooser<'a> {
             return Ok(Some(ScriptCommand::Lose { message }));
         }
         if self.chance.one_in(REPEATED) {
-            self.letters.push(PendingMessage {
-                number: message,
-                is_repeat: true,
-            })?;
+            self.letters.repeat(message)?;
         }
         Ok(Some(ScriptCommand::Deliver { message }))
     }
@@ -208,11 +186,10 @@ impl<'a> Chooser<'a> {
 
     // The failure of a node that has a process, unless the script has it failed.
     fn node_failure(&mut self) -> Result<Option<ScriptCommand>, AllocError> {
-        let index = self.chance.below(self.parts.len());
-        let Some(part) = self.parts.get(index) else {
+        let index = self.chance.below(self.processes.len());
+        let Some(node) = self.processes.node_at(index) else {
             return Ok(None);
         };
-        let node = part.node();
         if self.failed.has_node(node) {
             return Ok(None);
         }
@@ -224,7 +201,7 @@ impl<'a> Chooser<'a> {
     // The failure of the server of a file that a process opens, unless the script has it failed.
     fn server_failure(&mut self) -> Result<Option<ScriptCommand>, AllocError> {
         let index = self.chance.below(self.files.len());
-        let Some(file) = self.files.get(index).copied() else {
+        let Some(file) = self.files.at(index) else {
             return Ok(None);
         };
         if self.failed.has_server(file) {
@@ -237,11 +214,11 @@ impl<'a> Chooser<'a> {
 
     // What has no answer is asked for again, if a call is open: by the servers of the files and by the nodes.
     fn ask_again(&mut self) -> Result<(), AllocError> {
-        push_retries(self.parts.as_slice(), &mut self.queue)?;
+        self.processes.push_retries(&mut self.queue)?;
         if self.queue.is_empty() {
             return Ok(());
         }
-        push_resends(&mut self.queue, self.files.as_slice())
+        self.files.push_resends(&mut self.queue)
     }
 
     // The phase ends: all messages are settled, unless they are, and the line behind it has its turn. The next
@@ -269,7 +246,7 @@ impl<'a> Chooser<'a> {
             return Ok(());
         }
         let lines = self.lines;
-        for line in lines.iter().skip(self.taken) {
+        for line in behind(lines, self.taken) {
             if !matches!(line.command(), ScriptCommand::Settle) {
                 break;
             }
@@ -285,75 +262,19 @@ impl<'a> Chooser<'a> {
     pub(crate) fn begin_phase(&mut self) -> Result<(), AllocError> {
         self.rounds = 0;
         let lines = self.lines;
-        for line in lines.iter().skip(self.taken) {
+        for line in behind(lines, self.taken) {
             let ScriptCommand::Call { node, pid, op } = line.command() else {
                 return Ok(());
             };
             self.taken = self.taken.saturating_add(1);
-            note_file(&mut self.files, &op)?;
-            add_call(&mut self.parts, self.alloc, node, pid, line.command())?;
+            self.files.see(&op)?;
+            self.processes.add_call(node, pid, line.command())?;
         }
         Ok(())
     }
 }
 
-// The messages at these indexes may come.
-fn note_sent(
-    letters: &mut Vec<PendingMessage>,
-    first: usize,
-    end: usize,
-) -> Result<(), AllocError> {
-    for index in first..end {
-        let number = u32::try_from(index).unwrap_or(0).saturating_add(1);
-        letters.push(PendingMessage {
-            number,
-            is_repeat: false,
-        })?;
-    }
-    Ok(())
-}
-
-// The servers of the files are to learn that this incarnation of a node was declared failed.
-fn push_learns(
-    due: &mut Vec<ScriptCommand>,
-    files: &[u16],
-    node: u8,
-    incarnation: u16,
-) -> Result<(), AllocError> {
-    for file in files {
-        due.push(ScriptCommand::Learn {
-            file: *file,
-            node,
-            incarnation,
-        })?;
-    }
-    Ok(())
-}
-
-// The servers of the files ask again for what has no answer.
-fn push_resends(queue: &mut VecDeque<ScriptCommand>, files: &[u16]) -> Result<(), AllocError> {
-    for file in files {
-        queue.push_back(ScriptCommand::Resend { file: *file })?;
-    }
-    Ok(())
-}
-
-// A file that a process opens.
-fn note_file(files: &mut Vec<u16>, op: &Op) -> Result<(), AllocError> {
-    if let Op::Process(ProcessCall::Open { file, .. }) = op {
-        let known = files.iter().any(|other| *other == *file);
-        if !known {
-            files.push(*file)?;
-        }
-    }
-    Ok(())
-}
-
-// Takes out the value at the index, if there is one; the last comes to its place.
-fn take<T: Drop>(values: &mut Vec<T>, index: usize) -> Option<T> {
-    if index < values.len() {
-        Some(values.swap_remove(index))
-    } else {
-        None
-    }
+// The values behind the first so many.
+fn behind<T>(values: &[T], count: usize) -> &[T] {
+    values.get(count..).unwrap_or(&[])
 }

@@ -13,3 +13,5 @@ pub mod StayLaws
 pub mod OpenLists
 pub mod SheetLaws
 pub mod Columns
+pub mod StayNodes
+pub mod StretchWalks

@@ -14,6 +14,8 @@ pub mod drawing;
 mod entries;
 mod fates;
 mod frames;
+mod held_stretch;
+mod held_stretches;
 pub mod holdings;
 pub mod lanes;
 pub mod laws;

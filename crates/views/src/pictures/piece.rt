@@ -1,6 +1,6 @@
 //! What nodes hold behind entries.
 ghost use Rattle.std.specs.Prelude.{◌≡◌};
-ghost use Rattle.views.specs.rule.Pieces.{covers, is_of_file, is_of_node};
+ghost use Rattle.views.specs.rule.Pieces.{is_of_file};
 
 use crate::pictures::token_or_lock::TokenOrLock;
 use intervals::span::Span;
@@ -20,19 +20,5 @@ impl Piece {
         ensures { result ≡ is_of_file file self.now }
     {
         self.file == file
-    }
-
-    /// Whether the node holds it.
-    pub(crate) fn is_of_node(&self, node: u64) -> bool
-        ensures { result ≡ is_of_node node self.now }
-    {
-        self.held.node() == node
-    }
-
-    /// Whether it has all bytes from one to another.
-    pub(crate) fn covers(&self, lo: u64, hi: u64) -> bool
-        ensures { result ≡ covers lo hi self.now }
-    {
-        self.span.lo <= lo && hi <= self.span.hi
     }
 }

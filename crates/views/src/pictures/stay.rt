@@ -1,5 +1,6 @@
 //! How long something is held.
 ghost use Rattle.std.specs.Prelude.{◌≡◌};
+ghost use Rattle.views.specs.code.HeldStretches.{is_stay_of};
 ghost use Rattle.views.specs.rule.Shares.{goes_on};
 
 use crate::pictures::piece::Piece;
@@ -23,6 +24,13 @@ impl Stay {
             from: piece.position,
             to: piece.position,
         }
+    }
+
+    /// Whether the node holds it.
+    pub(crate) fn is_of_node(&self, node: u64) -> bool
+        ensures { result ≡ is_stay_of node self.now }
+    {
+        self.held.node() == node
     }
 
     /// Whether it goes on by the piece, which is the same at the next entry.

@@ -3,7 +3,7 @@ use Rattle.std.specs.List.{position_from}
 use Rattle.views.specs.declared.pictures.stay.Stay.{Stay}
 use Rattle.views.specs.rule.Shares.{goes_on}
 use Rattle.views.proofs.Grows.{begins, grows}
-use Rattle.views.proofs.pictures.share.add_piece.Goals as goal
+use Rattle.views.proofs.pictures.held_stretch.add_piece.Goals as goal
 
 pub returns-in-Some : goal.returns-in-Some
 returns-in-Some c =
