@@ -2,4 +2,4 @@ pub mod Searches
 pub mod FirstLines
 pub mod Empties
 pub mod Placings
-pub mod HeldLaws
+pub mod RowLaws

@@ -2,7 +2,7 @@
 use Rattle.std.proofs.Common.{◌≡◌, ℕ, ◌<◌, ◌≤◌, Some, None, true, arith, ap, if◌then◌else◌}
 use Rattle.std.specs.Prelude.{nat_le, nat_lt, Bool}
 use Rattle.std.proofs.lemmas.Bool.Decides.{nat_tests}
-use Rattle.recordings.specs.rule.Known.{place_of, place_up_to, slot_below}
+use Rattle.recordings.specs.rule.Processes.{place_of, place_up_to, slot_below}
 
 pub below : (slot : ℕ) → slot < 64 → slot_below slot ≡ Some slot
 below slot lt =

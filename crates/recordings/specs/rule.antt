@@ -1,5 +1,10 @@
 pub mod Places
 pub mod Placings
+pub mod Processes
 pub mod Known
+pub mod Additions
+pub mod Lives
+pub mod Descriptors
+pub mod LockCalls
 pub mod Steps
 pub mod Texts

@@ -1,5 +1,6 @@
 //! Processes whose calls are told.
 use crate::recorded_call::{Locker, RecordedClient};
+use indexmap::IndexMap;
 use std::alloc::{AllocError, Global};
 
 /// An open descriptor: its number, the line where the process got it, the open file description that it refers to, by its place, and
@@ -20,7 +21,8 @@ pub(crate) struct ClientProcess {
     life: u32,
     // The PIDs of those that run: its own, and those of its threads and of the processes with which it shares its descriptors.
     members: Vec<u32>,
-    descriptors: Vec<Descriptor>,
+    // By their numbers, in the order in which it got them.
+    descriptors: IndexMap<u32, Descriptor>,
     // The line where the last call began that returned, or where it was made.
     last: u64,
     // The line of its first `exit_group`.
@@ -41,11 +43,15 @@ impl ClientProcess {
     ) -> Result<ClientProcess, AllocError> {
         let mut members = Vec::new(alloc);
         members.push(pid)?;
+        let mut indexed = IndexMap::new(alloc);
+        for one in descriptors {
+            indexed.insert(one.fd, one)?;
+        }
         Ok(ClientProcess {
             pid,
             life,
             members,
-            descriptors,
+            descriptors: indexed,
             last: line,
             leaves: None,
         })
@@ -106,14 +112,9 @@ impl ClientProcess {
         }
     }
 
-    /// Its descriptors.
-    pub(crate) fn descriptors(&self) -> &[Descriptor] {
-        self.descriptors.as_slice()
-    }
-
     /// Its descriptor of this number.
     pub(crate) fn descriptor(&self, fd: u32) -> Option<Descriptor> {
-        self.descriptors.iter().find(|one| one.fd == fd).copied()
+        self.descriptors.get(&fd).copied()
     }
 
     /// It has the descriptor from now on.
@@ -121,18 +122,18 @@ impl ClientProcess {
     /// # Errors
     /// `AllocError` where a request for memory was refused.
     pub(crate) fn push_descriptor(&mut self, descriptor: Descriptor) -> Result<(), AllocError> {
-        self.descriptors.push(descriptor)?;
+        self.descriptors.insert(descriptor.fd, descriptor)?;
         Ok(())
     }
 
     /// It has no descriptor of that number any more.
     pub(crate) fn remove_descriptor(&mut self, fd: u32) {
-        self.descriptors.retain(|one| one.fd != fd);
+        self.descriptors.shift_remove(&fd);
     }
 
     /// Its descriptors from the first number to the last close where a program is executed, or don't.
     pub(crate) fn mark(&mut self, first: u32, last: u32, closes: bool) {
-        for one in self.descriptors.iter_mut() {
+        for one in self.descriptors.values_mut() {
             if first <= one.fd && one.fd <= last {
                 one.closes = closes;
             }
@@ -145,7 +146,7 @@ impl ClientProcess {
     /// `AllocError` where a request for memory was refused.
     pub(crate) fn copied(&self, alloc: Global) -> Result<Vec<Descriptor>, AllocError> {
         let mut copies = Vec::new(alloc);
-        for one in self.descriptors.as_slice() {
+        for one in self.descriptors.values() {
             copies.push(*one)?;
         }
         Ok(copies)

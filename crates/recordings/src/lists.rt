@@ -1,49 +1,17 @@
-//! What lists of processes, descriptors and files have.
-ghost use Rattle.std.specs.Prelude.{◌≡◌, ◌==◌, filter, find, not, IfOk, OnOk, map, ◌++◌};
+//! What lists of files, threads, placings and waits have.
+ghost use Rattle.std.specs.Prelude.{◌≡◌, ◌==◌, filter, find, not, OnOk, map, ◌++◌};
 ghost use Rattle.std.specs.List.{list_any};
-ghost use Rattle.std.specs.Option.{option_map};
-ghost use Rattle.model.specs.rule.Limits.{IsNumber, most_nodes};
-ghost use Rattle.recordings.specs.rule.Known.{fds_within, file_of, free_place, free_slot, has_pid, has_slot, held_by, is_file, is_held, is_left, is_of, is_scripted, is_slot, is_thread, is_thread_of, is_within, place_of, process_of, running_of, runs_at};
+ghost use Rattle.recordings.specs.rule.Known.{file_of, is_file, is_left, is_thread, is_thread_of, process_of};
 ghost use Rattle.recordings.specs.rule.Places.{has_placed, is_at, placing_of};
-ghost use Rattle.recordings.specs.rule.Steps.{has_room, in_child, retry_of};
+ghost use Rattle.recordings.specs.rule.LockCalls.{has_room, retry_of};
 
 use crate::numbered_file::NumberedFile;
 use crate::placing::Placing;
-use crate::recorded_descriptor::RecordedDescriptor;
-use crate::running::Running;
 use crate::said::Said;
 use crate::script_process::ScriptProcess;
 use crate::thread::Thread;
 use crate::written_line::WrittenLine;
-use std::alloc::{AllocError, Global};
-
-/// The process of this PID.
-pub(crate) fn running_of(running: &[Running], pid: u32) -> Option<Running>
-    ensures { result ≡ running_of running.now pid }
-{
-    for one in running {
-        if has_pid(one, pid) {
-            return Some(*one);
-        }
-    }
-    None
-}
-
-/// The descriptor of the process.
-pub(crate) fn held_by(
-    held: &[RecordedDescriptor],
-    place: ScriptProcess,
-    fd: u32,
-) -> Option<RecordedDescriptor>
-    ensures { result ≡ held_by held.now place fd }
-{
-    for one in held {
-        if is_held(one, place, fd) {
-            return Some(*one);
-        }
-    }
-    None
-}
+use std::alloc::AllocError;
 
 /// The file of this path.
 pub(crate) fn file_of(files: &[NumberedFile], path: u32) -> Option<NumberedFile>
@@ -57,137 +25,11 @@ pub(crate) fn file_of(files: &[NumberedFile], path: u32) -> Option<NumberedFile>
     None
 }
 
-// Whether it is the process of this PID.
-fn has_pid(one: &Running, pid: u32) -> bool
-    ensures { result ≡ has_pid pid one.now }
-{
-    one.pid == pid
-}
-
 // Whether it is the file of this path.
 fn is_file(file: &NumberedFile, path: u32) -> bool
     ensures { result ≡ is_file path file.now }
 {
     file.path == path
-}
-
-// Whether it is that descriptor of that process.
-fn is_held(held: &RecordedDescriptor, place: ScriptProcess, fd: u32) -> bool
-    ensures { result ≡ is_held place fd held.now }
-{
-    held.place.is_at(place) && held.fd == fd
-}
-
-// Whether it is a descriptor of that process, from the first number to the last.
-fn is_within(held: &RecordedDescriptor, place: ScriptProcess, first: u32, last: u32) -> bool
-    ensures { result ≡ is_within place first last held.now }
-{
-    held.place.is_at(place) && first <= held.fd && held.fd <= last
-}
-
-// Whether that process has it in the script.
-fn is_scripted(held: &RecordedDescriptor, place: ScriptProcess) -> bool
-    ensures { result ≡ is_scripted place held.now }
-{
-    held.place.is_at(place) && held.slot.is_some()
-}
-
-// Whether it is that descriptor of that process in the script.
-fn has_slot(held: &RecordedDescriptor, place: ScriptProcess, slot: u8) -> bool
-    ensures { result ≡ has_slot place slot held.now }
-{
-    held.place.is_at(place) && is_slot(held.slot, slot)
-}
-
-// Whether it is that descriptor of the script.
-fn is_slot(held: Option<u8>, slot: u8) -> bool
-    ensures { result ≡ is_slot slot held }
-{
-    match held {
-        Some(known) => known == slot,
-        None => false,
-    }
-}
-
-// Whether that process runs.
-fn is_running(running: &[Running], place: ScriptProcess) -> bool
-    ensures { result ≡ list_any (runs_at place) running.now }
-{
-    running.iter().any(|one| one.place.is_at(place))
-}
-
-// Whether the process has that descriptor in the script.
-fn is_used(held: &[RecordedDescriptor], place: ScriptProcess, slot: u8) -> bool
-    ensures { result ≡ list_any (has_slot place slot) held.now }
-{
-    held.iter().any(|one| has_slot(one, place, slot))
-}
-
-/// The process of the node with the lowest number that none that runs has, if there is one.
-pub(crate) fn free_place(running: &[Running], node: u8) -> Option<ScriptProcess>
-    requires { IsNumber most_nodes node }
-    ensures { result ≡ free_place running.now node }
-{
-    for number in 1..=256 {
-        let place = ScriptProcess::new(node, number);
-        if !is_running(running, place) {
-            return Some(place);
-        }
-    }
-    None
-}
-
-/// The lowest descriptor of the process in the script that is free, if there is one.
-pub(crate) fn free_slot(held: &[RecordedDescriptor], place: ScriptProcess) -> Option<u8>
-    ensures { result ≡ free_slot held.now place }
-{
-    for slot in 0..64 {
-        if !is_used(held, place, slot) {
-            return Some(slot);
-        }
-    }
-    None
-}
-
-/// Whether the process has a descriptor in the script.
-pub(crate) fn has_scripted(held: &[RecordedDescriptor], place: ScriptProcess) -> bool
-    ensures { result ≡ list_any (is_scripted place) held.now }
-{
-    held.iter().any(|one| is_scripted(one, place))
-}
-
-/// The numbers of the descriptors of the process from the first to the last, in the order in which it got
-/// them.
-pub(crate) fn fds_within(
-    alloc: Global,
-    held: &[RecordedDescriptor],
-    place: ScriptProcess,
-    first: u32,
-    last: u32,
-) -> Result<Vec<u32>, AllocError>
-    ensures { IfOk result (λ fds. fds.items ≡ fds_within held.now place first last) }
-{
-    let mut fds = Vec::new(alloc);
-    for one in held {
-        if is_within(one, place, first, last) {
-            fds.push(one.fd)?;
-        }
-    }
-    Ok(fds)
-}
-
-/// The descriptor goes.
-pub(crate) fn remove_held(held: &mut Vec<RecordedDescriptor>, place: ScriptProcess, fd: u32)
-    ensures { held.new.items ≡ filter (λ h. not (is_held place fd h)) held.old.items }
-{
-    held.retain(|one| !is_held(one, place, fd));
-}
-
-/// The process goes.
-pub(crate) fn remove_process(running: &mut Vec<Running>, place: ScriptProcess)
-    ensures { running.new.items ≡ filter (λ r. not (runs_at place r)) running.old.items }
-{
-    running.retain(|one| !one.place.is_at(place));
 }
 
 /// The waits of the process are open no more.
@@ -291,18 +133,6 @@ pub(crate) fn remove_left(left: &mut Vec<u32>, pid: u32)
     ensures { left.new.items ≡ filter (λ other. not (other == pid)) left.old.items }
 {
     left.retain(|other| *other != pid);
-}
-
-/// The same descriptor of the child.
-pub(crate) fn in_child(held: RecordedDescriptor, child: ScriptProcess) -> RecordedDescriptor
-    ensures { result ≡ in_child child held }
-{
-    RecordedDescriptor {
-        place: child,
-        fd: held.fd,
-        path: held.path,
-        slot: held.slot,
-    }
 }
 
 /// Whether there is no lock call on the file yet, and the script can have it.

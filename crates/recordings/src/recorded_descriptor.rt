@@ -1,12 +1,11 @@
 //! Descriptors that are open.
 use crate::script_process::ScriptProcess;
 
-/// An open descriptor: the process that has it, its number in the recording, the path of its file, by the number
-/// of the path in the recording, and its number in the script, 0 to 63, if it has one there.
+/// An open descriptor: the process that has it, the path of its file, by the number of the path in the recording, and
+/// its number in the script, 0 to 63, if it has one there.
 #[derive(Clone, Copy)]
 pub(crate) struct RecordedDescriptor {
     pub(crate) place: ScriptProcess,
-    pub(crate) fd: u32,
     pub(crate) path: u32,
     pub(crate) slot: Option<u8>,
 }

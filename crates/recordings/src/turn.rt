@@ -1,7 +1,7 @@
 //! Turns of nodes.
 ghost use Rattle.std.specs.Prelude.{◌≡◌};
 ghost use Rattle.model.specs.rule.Limits.{IsNumber, most_nodes};
-ghost use Rattle.recordings.specs.rule.Steps.{node_after, node_for};
+ghost use Rattle.recordings.specs.rule.Lives.{node_after, node_for};
 
 use crate::placing::Placing;
 

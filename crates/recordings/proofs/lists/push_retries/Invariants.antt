@@ -1,5 +1,5 @@
 use Rattle.std.proofs.Common.{◌≡◌, ◌++◌, map, take}
-use Rattle.recordings.specs.rule.Steps.{retry_of}
+use Rattle.recordings.specs.rule.LockCalls.{retry_of}
 use Rattle.recordings.proofs.lists.push_retries.Given as goal
 
 abbrev pub invariant-loop-place : goal.invariant-loop-place

@@ -1,5 +1,5 @@
 use Rattle.std.proofs.Common.{◌≡◌, drop, fold}
-use Rattle.recordings.specs.rule.Steps.{closed_in_turn, then_closed}
+use Rattle.recordings.specs.rule.Descriptors.{closed_in_turn, then_closed}
 use Rattle.recordings.proofs.known_processes.KnownProcesses.close_in_turn.Given as goal
 
 abbrev pub invariant-loop-fd : goal.invariant-loop-fd

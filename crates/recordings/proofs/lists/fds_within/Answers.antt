@@ -1,9 +1,0 @@
-use Rattle.std.proofs.Common.{arith}
-use Rattle.std.proofs.lemmas.Grind.{common_steps}
-use Rattle.recordings.proofs.lists.fds_within.Goals as goal
-
-pub loop-one-preserved : goal.loop-one-preserved
-loop-one-preserved c = grind (arith, common_steps)
-
-pub returns : goal.returns
-returns c = grind (arith, common_steps)

@@ -1,0 +1,13 @@
+use Rattle.std.proofs.Common.{◌≡◌, ap, subst, ◌∙◌}
+use Rattle.indexmap.specs.IndexMap.{insert_entry}
+use Rattle.recordings.specs.contracts.script_process.ScriptProcessPartialEq.TheImpl as derived
+use Rattle.recordings.specs.rule.Processes.{ProcessFields, Processes, begun_process, with_process}
+use Rattle.recordings.proofs.RowLaws.{row-put}
+use Rattle.recordings.proofs.script_processes.ScriptProcesses.begin.Goals as goal
+
+pub returns : goal.returns
+returns c =
+    let old = c.self.inside.rows.entries in
+    let new = c.insert.new.self.entries in
+    row-put old c.args.place begun_process new (subst (λ (row : ProcessFields). new ≡ insert_entry derived.ghosts.eq old c.args.place row) c.begun.ensures c.in_ok-insert.ensures.entries)
+    ∙ ap (λ (ps : Processes). with_process c.args.place begun_process ps) c.self.view_is
