@@ -1,6 +1,6 @@
 //! What the clients of a recording did.
 mod asks;
-mod descriptors;
+mod held;
 mod lives;
 
 use crate::client_process::Descriptor;

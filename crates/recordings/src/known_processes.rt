@@ -7,7 +7,7 @@ ghost use Rattle.recordings.specs.rule.Descriptors.{held_of};
 ghost use Rattle.recordings.specs.rule.Processes.{running_of};
 ghost use Rattle.recordings.specs.rule.Steps.{happened, start, step};
 
-mod descriptors;
+mod held;
 mod lives;
 mod lock_calls;
 
