@@ -3,3 +3,4 @@ pub mod Taking
 pub mod Passing
 pub mod Listing
 pub mod Lines
+pub mod Naming

@@ -3,6 +3,7 @@
 #![tactic(auto)]
 
 pub mod block;
+mod block_lines;
 mod block_reader;
 mod fields;
 pub mod head;
@@ -12,5 +13,4 @@ mod list_reader;
 pub mod log_error;
 mod parts;
 pub mod read;
-mod step_entry;
 mod torn;

@@ -1,5 +1,5 @@
 //! Having the seat of an actor.
-ghost use Rattle.std.specs.Prelude.{◌≡◌, IfOk};
+ghost use Rattle.std.specs.Prelude.{◌≡◌, IfOk, OnErr};
 ghost use Rattle.model.specs.rule.Limits.{IsNumber};
 ghost use Rattle.seats.specs.rule.Parts.{node_seat, server_seat};
 ghost use Rattle.seat_keeping.specs.rule.SeatTalks.{IsIn, SeatTalks, TalksFor, begin_of, node_begun, server_begun};
@@ -24,7 +24,7 @@ use talks::talk::TalkEnd;
 /// the log and then out. Tells why that ended.
 ///
 /// # Errors
-/// `AllocError` where a request for memory was refused before the first line was read.
+/// `AllocError` where a request for memory was refused before the first block was written: nothing was read and written.
 pub fn have_seat<C: Clock, R: Read, L: Write, W: Write>(
     clock: &C,
     alloc: Global,
@@ -34,8 +34,9 @@ pub fn have_seat<C: Clock, R: Read, L: Write, W: Write>(
     out: &mut W,
 ) -> Result<TalkEnd, AllocError>
     requires { IsIn which.now.shape which.now.actor }
-    ensures { IfOk result (λ end. TalksFor which.now which.now.actor end (R.remaining reader.old) (R.remaining reader.new)
+    ensures talks { IfOk result (λ end. TalksFor which.now which.now.actor end (R.remaining reader.old) (R.remaining reader.new)
         (L.contents log.old) (L.contents log.new) (W.contents out.old) (W.contents out.new)) }
+    ensures untouched { OnErr result ((reader.new ≡ reader.old) × (log.new ≡ log.old) × (out.new ≡ out.old)) }
 {
     match which.actor {
         Actor::Node(node) => {
@@ -81,8 +82,9 @@ fn speak<C: Clock, S: Seated + Drop, R: Read, L: Write, W: Write>(
     log: &mut L,
     out: &mut W,
 ) -> Result<TalkEnd, AllocError>
-    ensures { IfOk result (λ end. SeatTalks S.does which.now.clock (begin_of which.now) seat end (R.remaining reader.old) (R.remaining reader.new)
+    ensures talks { IfOk result (λ end. SeatTalks S.does which.now.clock (begin_of which.now) seat end (R.remaining reader.old) (R.remaining reader.new)
         (L.contents log.old) (L.contents log.new) (W.contents out.old) (W.contents out.new)) }
+    ensures untouched { OnErr result ((reader.new ≡ reader.old) × (log.new ≡ log.old) × (out.new ≡ out.old)) }
 {
     let mut begin = String::new(alloc);
     let mut who = Speaker::new(alloc, seat);
