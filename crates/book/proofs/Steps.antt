@@ -40,7 +40,7 @@ leads (OfServer f s) event (OnNode e) t o h is = absurd h
 -- where the actor is in the step's state, the world goes on by the step
 pub leads_on : (w : WorldState) (s : State) (event : Event) (e : StateEdit) (o : Outcome) → is_known w event ≡ true → HasState w s → Plans s event e o → (made : WorldState × Entry) × (next w event ≡ Ok made)
 leads_on w (OfNode n s) event (OnNode e) o known has h =
-    let t : NodeState = reached s.value e.value in
+    let t : NodeState = reached s.value e in
     let steps : NodeSteps w event n t o = record { number = has.number; alive = has.alive; done = ap (λ (x : NodeState). node_step n x event) has.state ∙ h } in
     (made_by_node w event n t o, node_next w event n t o known steps)
 leads_on w (OfServer f s) event (OnServer e) o known has h =
