@@ -1,10 +1,9 @@
 -- The logs that files have.
 use denote.Ref.{Bor}
 use Rattle.std.proofs.Common.{◌≡◌, ℕ, ◌+◌, ◌<◌, List, [], ◌∷◌, ◌++◌, Option, Some, None, String, refl, sym, subst, ap, ◌∙◌, map, take, length, get_or}
-use Rattle.std.specs.Prelude.{◌↔◌, ◌≢◌, IsUtf8, string_bytes}
+use Rattle.std.specs.Prelude.{◌↔◌, ◌≢◌, string_bytes}
 use Rattle.std.specs.Global.{Global}
 use Rattle.std.proofs.lemmas.List.{map-append, take_more}
-use Rattle.std.proofs.lemmas.Str.{IsUtf8-string_bytes}
 use Rattle.messages.specs.declared.entry.Entry.{Entry}
 use Rattle.messages.specs.rule.Shapes.{ShapeFields}
 use Rattle.journal_text.specs.rule.Journals.{journal_text}
@@ -15,26 +14,22 @@ use Rattle.merges.specs.declared.logged.LoggedChange.{LoggedChange}
 use Rattle.merges.specs.rule.Logs.{LogFields, log_of}
 use Rattle.merges.specs.rule.Merges.{AreMerged, NoneMerges}
 use Rattle.replay.specs.rule.Stores.{Files, HasText, SameFiles, SameOthers}
+use Rattle.replay.proofs.Paths.{now_of}
+use Rattle.replay.proofs.Stores.{had-text, text-held}
 use Rattle.merging.specs.declared.merge_line.MergeLine.{MergeLine}
 use Rattle.merging.specs.rule.Merging.{AreDeclared, AreNamed, AreOf, ChangesTarget, HasLog, HasNone, HaveLogs, IsMerged, Writes, all_logs, path_of, target_of}
 
-pub same : (files : Files) → SameFiles files files
-same files = λ path file. (λ holds. holds, λ holds. holds)
-
--- no file changes, and then again none
-pub same_after : (old mid new : Files) → SameFiles old mid → SameFiles mid new → SameFiles old new
-same_after old mid new first second = λ path file.
-    let here = first path file in
-    let there = second path file in
-    (λ holds. here.0 (there.0 holds), λ holds. there.1 (here.1 holds))
-
--- a file has the text that it had
-pub had : (old new : Files) (path : List ℕ) (Is : List ℕ → Type 0) → SameFiles old new → HasText (new path) Is → HasText (old path) Is
-had old new path Is same has = (has.0, (same path (Some has.0)).0 has.1, has.2, has.3)
-
 -- the text that was read of a file
 pub has_text : (Holds : Option (List ℕ) → Type 0) (text : String Global) (bytes : List ℕ) (Is : List ℕ → Type 0) → bytes ≡ string_bytes text → Holds (Some (string_bytes text)) → Is bytes → HasText Holds Is
-has_text Holds text bytes Is is holds this = (bytes, subst (λ (b : List ℕ). Holds (Some b)) (sym is) holds, subst IsUtf8 (sym is) (IsUtf8-string_bytes text), this)
+has_text Holds text bytes Is is holds this =
+    let held = text-held Holds text bytes is holds in
+    (bytes, held.0, held.1, this)
+
+-- files that have no log are none
+pub none_named : (old : Files) (paths : List (Bor (List ℕ))) (logs : List ReadLog) → HaveLogs old (map (λ path. path.now) paths) logs → logs ≡ [] → paths ≡ []
+none_named old [] logs have none = refl
+none_named old (path ∷ paths) [] have none = absurd have
+none_named old (path ∷ paths) (log ∷ logs) have none = cc
 
 -- a file more
 pub have_more : (old : Files) (paths : List (List ℕ)) (logs : List ReadLog) (path : List ℕ) (log : ReadLog) → HaveLogs old paths logs → HasLog old path log → HaveLogs old (paths ++ path ∷ []) (logs ++ log ∷ [])
@@ -45,7 +40,7 @@ have_more old (p ∷ ps) (l ∷ ls) path log have has = (have.0, have_more old p
 
 -- the declarations and starts were those before, where no file changed
 pub were_declared : (old mid : Files) (path : Option (List ℕ)) (shape : ShapeFields) (read : List ReadLog) (declared : List LoggedChange) → SameFiles old mid → AreDeclared mid path shape read declared → AreDeclared old path shape read declared
-were_declared old mid (Some path) shape read declared same are = had old mid path (λ text. IsList text shape.nodes shape.files declared) same are
+were_declared old mid (Some path) shape read declared same are = had-text old mid path (λ text. IsList text shape.nodes shape.files declared) same are
 were_declared old mid None shape read declared same are = are
 
 -- what was read is what the line names
@@ -94,18 +89,14 @@ writes old new line shape entries merged written = record { shape = shape; entri
 pub no_target : {P : Type 0} (path : List ℕ) → None ≡ Some path → P
 no_target path e = absurd (cc)
 
--- the path itself
-abbrev pub itself : Bor (List ℕ) → List ℕ
-itself path = path.now
-
 -- the paths with one more
-paths_more : (paths : List (Bor (List ℕ))) (i : ℕ) (d : Bor (List ℕ)) → i < length paths → map itself (take (i + 1) paths) ≡ map itself (take i paths) ++ itself (get_or paths i d) ∷ []
-paths_more paths i d lt = ap (λ (ps : List (Bor (List ℕ))). map itself ps) (take_more paths i d lt) ∙ map-append itself (take i paths) (get_or paths i d ∷ [])
+paths_more : (paths : List (Bor (List ℕ))) (i : ℕ) (d : Bor (List ℕ)) → i < length paths → map now_of (take (i + 1) paths) ≡ map now_of (take i paths) ++ now_of (get_or paths i d) ∷ []
+paths_more paths i d lt = ap (λ (ps : List (Bor (List ℕ))). map now_of ps) (take_more paths i d lt) ∙ map-append now_of (take i paths) (get_or paths i d ∷ [])
 
 -- one more file was read
-pub read_more : (old mid : Files) (paths : List (Bor (List ℕ))) (i : ℕ) (d : Bor (List ℕ)) (logs next : List ReadLog) (log : ReadLog) → i < length paths → HaveLogs old (map itself (take i paths)) logs → SameFiles old mid → HasLog mid (itself (get_or paths i d)) log → next ≡ logs ++ log ∷ [] → HaveLogs old (map itself (take (i + 1) paths)) next
+pub read_more : (old mid : Files) (paths : List (Bor (List ℕ))) (i : ℕ) (d : Bor (List ℕ)) (logs next : List ReadLog) (log : ReadLog) → i < length paths → HaveLogs old (map now_of (take i paths)) logs → SameFiles old mid → HasLog mid (now_of (get_or paths i d)) log → next ≡ logs ++ log ∷ [] → HaveLogs old (map now_of (take (i + 1) paths)) next
 read_more old mid paths i d logs next log lt have same has more =
-    let path = itself (get_or paths i d) in
-    let all = have_more old (map itself (take i paths)) logs path log have (had old mid path (λ text. IsLog text log.head log.logs.items log.changes.items) same has) in
+    let path = now_of (get_or paths i d) in
+    let all = have_more old (map now_of (take i paths)) logs path log have (had-text old mid path (λ text. IsLog text log.head log.logs.items log.changes.items) same has) in
     let named = subst (λ (ps : List (List ℕ)). HaveLogs old ps (logs ++ log ∷ [])) (sym (paths_more paths i d lt)) all in
-    subst (λ (ls : List ReadLog). HaveLogs old (map itself (take (i + 1) paths)) ls) (sym more) named
+    subst (λ (ls : List ReadLog). HaveLogs old (map now_of (take (i + 1) paths)) ls) (sym more) named

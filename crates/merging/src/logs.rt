@@ -1,6 +1,7 @@
 //! The logs of files.
-ghost use Rattle.std.specs.Prelude.{◌≡◌, ◌↔◌, map, IfOk, IsTrue};
+ghost use Rattle.std.specs.Prelude.{◌≡◌, ◌≢◌, ◌↔◌, ◌⊎◌, [], Err, map, IfErr, IfOk, IsTrue, OnErr, OnOk};
 ghost use Rattle.replay.specs.rule.Stores.{SameFiles};
+ghost use Rattle.merging.specs.declared.merge_fault.FileFault.TheVariants.{NoLog};
 ghost use Rattle.merging.specs.rule.Merging.{AreOf, HasLog, HaveLogs};
 
 use crate::merge_fault::FileFault;
@@ -17,6 +18,7 @@ pub(crate) fn logs_of<'a, S: Store>(
     paths: &[&'a str],
 ) -> Result<Vec<ReadLog>, FileFault<'a>>
     ensures logs { IfOk result (λ logs. HaveLogs (S.holds store.old) (map (λ path. path.now) paths.now) logs.items) }
+    ensures named { IfErr result (λ fault. (fault ≢ NoLog) × (paths.now ≢ [])) }
     ensures files { SameFiles (S.holds store.old) (S.holds store.new) }
 {
     let mut logs = Vec::new(alloc);
@@ -33,6 +35,7 @@ fn log_of<'a, S: Store>(
     path: &'a str,
 ) -> Result<ReadLog, FileFault<'a>>
     ensures log { IfOk result (λ log. HasLog (S.holds store.old) path.now log) }
+    ensures named { IfErr result (λ fault. fault ≢ NoLog) }
     ensures files { SameFiles (S.holds store.old) (S.holds store.new) }
 {
     let text = text_of(alloc, store, path)?;
@@ -44,7 +47,10 @@ fn log_of<'a, S: Store>(
 
 /// The shape of the cluster of the logs, which is one for all.
 pub(crate) fn shape_of<'a>(paths: &[&'a str], logs: &[ReadLog]) -> Result<Shape, FileFault<'a>>
-    ensures { IfOk result (λ shape. AreOf shape logs.now) }
+    ensures one { IfOk result (λ shape. AreOf shape logs.now) }
+    ensures some { OnOk result (logs.now ≢ []) }
+    ensures none { paths.now ≡ [] → result ≡ Err NoLog }
+    ensures no_log { result ≡ Err NoLog → (paths.now ≡ []) ⊎ (logs.now ≡ []) }
 {
     let (Some(first), Some(path)) = (logs.first(), paths.first()) else {
         return Err(FileFault::NoLog);

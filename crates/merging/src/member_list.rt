@@ -1,9 +1,10 @@
 //! The list of declarations and starts.
-ghost use Rattle.std.specs.Prelude.{◌≡◌, IfOk};
+ghost use Rattle.std.specs.Prelude.{◌≡◌, ◌≢◌, ◌<◌, ◌⊎◌, [], length, IfErr, IfOk};
 ghost use Rattle.std.specs.List.{Contains};
 ghost use Rattle.log_text.specs.declared.read.ReadLog.{ReadLog as Read};
 ghost use Rattle.log_text.specs.rule.Lists.{IsList};
 ghost use Rattle.replay.specs.rule.Stores.{HasText, SameFiles};
+ghost use Rattle.merging.specs.declared.merge_fault.FileFault.TheVariants.{NoLog};
 ghost use Rattle.merging.specs.rule.Merging.{told_earlier};
 
 use crate::merge_fault::FileFault;
@@ -15,8 +16,8 @@ use replay::input::text_of;
 use replay::store::Store;
 use std::alloc::{AllocError, Global};
 
-/// The declarations and starts of the file of this path, of a cluster of this shape, as the logs of these files were told of
-/// them; `first` is the path of one of the logs.
+/// The declarations and starts of the file of this path, of a cluster of this shape, as the logs of the files of these paths were
+/// told of them.
 pub(crate) fn list_in<'a, S: Store>(
     alloc: Global,
     store: &mut S,
@@ -26,6 +27,7 @@ pub(crate) fn list_in<'a, S: Store>(
     logs: &[ReadLog],
 ) -> Result<Vec<LoggedChange>, FileFault<'a>>
     ensures list { IfOk result (λ declared. HasText (S.holds store.old path.now) (λ text. IsList text shape.nodes shape.files declared.items)) }
+    ensures named { IfErr result (λ fault. fault ≢ NoLog) }
     ensures files { SameFiles (S.holds store.old) (S.holds store.new) }
 {
     let list = list_of(alloc, store, path)?;
@@ -47,6 +49,7 @@ fn list_of<'a, S: Store>(
     path: &'a str,
 ) -> Result<ReadList, FileFault<'a>>
     ensures list { IfOk result (λ list. HasText (S.holds store.old path.now) (λ text. IsList text list.nodes list.files list.changes.items)) }
+    ensures named { IfErr result (λ fault. fault ≢ NoLog) }
     ensures files { SameFiles (S.holds store.old) (S.holds store.new) }
 {
     let text = text_of(alloc, store, path)?;
@@ -68,7 +71,8 @@ pub(crate) fn told_list<'a>(
     paths: &[&'a str],
     logs: &[ReadLog],
 ) -> Result<Vec<LoggedChange>, FileFault<'a>>
-    ensures { IfOk result (λ declared. (log : Read) × Contains logs.now log × (declared.items ≡ told_earlier log.changes.items)) }
+    ensures told { IfOk result (λ declared. (log : Read) × Contains logs.now log × (declared.items ≡ told_earlier log.changes.items)) }
+    ensures named { logs.now ≢ [] → IfErr result (λ fault. fault ≢ NoLog) }
 {
     let longest = longest_of(logs);
     let Some(log) = logs.get(longest) else {
@@ -80,18 +84,13 @@ pub(crate) fn told_list<'a>(
             return Err(FileFault::OtherMembers(path_at(paths, index, path), path));
         }
     }
-    Ok(told_in(alloc, log)?)
+    Ok(told_earlier(alloc, log.changes.as_slice())?)
 }
 
-// What the log was told of, each of which may have come about any time before it had ended.
-fn told_in(alloc: Global, log: &ReadLog) -> Result<Vec<LoggedChange>, AllocError>
-    ensures { IfOk result (λ earlier. earlier.items ≡ told_earlier log.now.changes.items) }
+// The index of the log that was told of most; 0 where there is no log.
+fn longest_of(logs: &[ReadLog]) -> usize
+    ensures { (result ≡ 0) ⊎ (result < length logs.now) }
 {
-    told_earlier(alloc, log.changes.as_slice())
-}
-
-// The index of the log that was told of most.
-fn longest_of(logs: &[ReadLog]) -> usize {
     let mut longest = 0;
     let mut most = 0;
     for index in 0..logs.len() {

@@ -1,8 +1,10 @@
 //! The command `merge`.
-ghost use Rattle.std.specs.Prelude.{◌≡◌, ◌≢◌, ℕ, List, Some, Err, OnOk};
+ghost use Rattle.std.specs.Prelude.{◌≡◌, ◌≢◌, ◌≤◌, ◌↔◌, ℕ, [], true, codes, string_bytes, List, Some, Err, IfOk, OnOk};
+ghost use Rattle.std.specs.Io.KnownBytes.{Appends};
 ghost use Rattle.journal_text.specs.rule.Journals.{journal_text};
 ghost use Rattle.merges.specs.declared.merge_error.MergeError.TheVariants.{NoOrder};
 ghost use Rattle.replay.specs.rule.Stores.{SameFiles};
+ghost use Rattle.merging.specs.declared.merge_fault.FileFault.TheVariants.{NoLog};
 ghost use Rattle.merging.specs.declared.merge_fault.MergeFault.TheVariants as reason;
 ghost use Rattle.merging.specs.rule.Merging.{ChangesTarget, HasNone, Writes, target_of};
 
@@ -36,6 +38,12 @@ pub fn merge_command<'a, S: Store, O: Output, E: Output>(
 
     // There is none.
     ensures none { result ≡ 1 → HasNone (S.holds store.old) line.now }
+    ensures no_log { (result ≡ 2) ↔ (line.now.logs.items ≡ []) }
+    ensures within { result ≤ 4 }
+
+    // Where it was only asked for that, the first writer is told.
+    ensures yes { result ≡ 0 → line.now.check ≡ true → Appends (O.taken out.old) (O.taken out.new) (codes "merge yes\n") }
+    ensures no { result ≡ 1 → line.now.check ≡ true → Appends (O.taken out.old) (O.taken out.new) (codes "merge no\n") }
     ensures files { ChangesTarget (S.holds store.old) line.now (S.holds store.new) }
 {
     let mut told = Vec::new(alloc);
@@ -54,6 +62,8 @@ fn done<'a, S: Store>(
 ) -> Result<usize, MergeFault<'a>>
     ensures done { OnOk result (Writes (S.holds store.old) line.now (S.holds store.new)) }
     ensures none { result ≡ Err (reason.None NoOrder) → HasNone (S.holds store.old) line.now }
+    ensures no_log { result ≡ Err (reason.Files NoLog) → line.now.logs.items ≡ [] }
+    ensures unnamed { line.now.logs.items ≡ [] → result ≡ Err (reason.Files NoLog) }
     ensures files { ChangesTarget (S.holds store.old) line.now (S.holds store.new) }
 {
     let journal = merged(alloc, store, line, told)?;
@@ -86,7 +96,9 @@ fn tell_done<O: Output, E: Output>(
     out: &mut O,
     err: &mut E,
 ) -> u8
-    ensures { result ≢ 1 }
+    ensures done { (result ≢ 1) × (result ≢ 2) }
+    ensures within { result ≤ 4 }
+    ensures yes { result ≡ 0 → line.now.check ≡ true → Appends (O.taken out.old) (O.taken out.new) (codes "merge yes\n") }
 {
     let said = match done_text(alloc, line, count) {
         Ok(text) => text,
@@ -98,7 +110,9 @@ fn tell_done<O: Output, E: Output>(
     }
 }
 
-fn done_text(alloc: Global, line: &MergeLine<'_>, count: usize) -> Result<String, AllocError> {
+fn done_text(alloc: Global, line: &MergeLine<'_>, count: usize) -> Result<String, AllocError>
+    ensures { IfOk result (λ text. line.now.check ≡ true → string_bytes text ≡ codes "merge yes\n") }
+{
     if line.check {
         return format!(in alloc; "merge yes\n");
     }
@@ -118,6 +132,9 @@ fn tell_fault<O: Output, E: Output>(
 ) -> u8
     ensures one { result ≡ 1 → fault.now ≡ reason.None NoOrder }
     ensures failed { result ≢ 0 }
+    ensures no_log { (result ≡ 2) ↔ (fault.now ≡ reason.Files NoLog) }
+    ensures within { result ≤ 4 }
+    ensures no { result ≡ 1 → line.now.check ≡ true → Appends (O.taken out.old) (O.taken out.new) (codes "merge no\n") }
 {
     if let MergeFault::None(MergeError::NoOrder) = fault {
         if line.check && shown(out, "merge no\n").is_err() {
@@ -131,7 +148,9 @@ fn tell_fault<O: Output, E: Output>(
     fault.status()
 }
 
-fn shown<O: Output>(out: &mut O, text: &str) -> Result<(), WriteFailed> {
+fn shown<O: Output>(out: &mut O, text: &str) -> Result<(), WriteFailed>
+    ensures { OnOk result (Appends (O.taken out.old) (O.taken out.new) text.now) }
+{
     out.put(text.as_bytes())?;
     out.finish()
 }

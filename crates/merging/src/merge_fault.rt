@@ -1,7 +1,7 @@
 //! Why logs were not merged.
-ghost use Rattle.std.specs.Prelude.{◌≡◌, ◌≢◌};
+ghost use Rattle.std.specs.Prelude.{◌≡◌, ◌≢◌, ◌≤◌, ◌↔◌};
 ghost use Rattle.merges.specs.declared.merge_error.MergeError.TheVariants.{NoOrder};
-ghost use Rattle.merging.specs.declared.merge_fault.FileFault.TheVariants.{Whole};
+ghost use Rattle.merging.specs.declared.merge_fault.FileFault.TheVariants.{NoLog, Whole};
 ghost use Rattle.merging.specs.declared.merge_fault.MergeFault.TheVariants as reason;
 ghost use Rattle.replay.specs.declared.fault.Fault.TheVariants.{NoMemory};
 
@@ -56,6 +56,8 @@ impl FileFault<'_> {
     fn status(&self) -> u8
         ensures one { result ≢ 1 }
         ensures failed { result ≢ 0 }
+        ensures no_log { (result ≡ 2) ↔ (self.now ≡ NoLog) }
+        ensures within { result ≤ 4 }
     {
         match self {
             FileFault::Whole(fault) => fault.status(),
@@ -121,6 +123,8 @@ impl MergeFault<'_> {
     pub(crate) fn status(&self) -> u8
         ensures one { result ≡ 1 → self.now ≡ reason.None NoOrder }
         ensures failed { result ≢ 0 }
+        ensures no_log { (result ≡ 2) ↔ (self.now ≡ reason.Files NoLog) }
+        ensures within { result ≤ 4 }
     {
         match self {
             MergeFault::Files(fault) => fault.status(),

@@ -1,8 +1,9 @@
 //! Merging the logs of files.
-ghost use Rattle.std.specs.Prelude.{◌≡◌, Some, Err, IfOk, OnOk};
+ghost use Rattle.std.specs.Prelude.{◌≡◌, ◌≢◌, [], Some, Err, IfErr, IfOk, OnOk};
 ghost use Rattle.journal_text.specs.rule.Journals.{journal_text};
 ghost use Rattle.merges.specs.declared.merge_error.MergeError.TheVariants.{NoOrder};
 ghost use Rattle.replay.specs.rule.Stores.{SameFiles, SameOthers};
+ghost use Rattle.merging.specs.declared.merge_fault.FileFault.TheVariants.{NoLog};
 ghost use Rattle.merging.specs.declared.merge_fault.MergeFault.TheVariants as reason;
 ghost use Rattle.merging.specs.rule.Merging.{AreDeclared, HasNone, IsMerged, all_logs, path_of};
 
@@ -34,6 +35,8 @@ pub(crate) fn merged<'a, S: Store>(
 ) -> Result<Journal, MergeFault<'a>>
     ensures merged { IfOk result (λ journal. IsMerged (S.holds store.old) line.now journal.shape journal.entries) }
     ensures none { result ≡ Err (reason.None NoOrder) → HasNone (S.holds store.old) line.now }
+    ensures no_log { result ≡ Err (reason.Files NoLog) → line.now.logs.items ≡ [] }
+    ensures unnamed { line.now.logs.items ≡ [] → result ≡ Err (reason.Files NoLog) }
     ensures files { SameFiles (S.holds store.old) (S.holds store.new) }
 {
     let logs = logs_of(alloc, store, line.logs.as_slice())?;
@@ -58,6 +61,7 @@ fn declared_in<'a, S: Store>(
     logs: &[ReadLog],
 ) -> Result<Vec<LoggedChange>, FileFault<'a>>
     ensures declared { IfOk result (λ declared. AreDeclared (S.holds store.old) (path_of line.now.members) shape logs.now declared.items) }
+    ensures named { logs.now ≢ [] → IfErr result (λ fault. fault ≢ NoLog) }
     ensures files { SameFiles (S.holds store.old) (S.holds store.new) }
 {
     let paths = line.logs.as_slice();
@@ -69,7 +73,8 @@ fn declared_in<'a, S: Store>(
 
 // The list, whose clock did not go back.
 fn changes_of<'a>(line: &MergeLine<'a>, list: Vec<LoggedChange>) -> Result<Changes, FileFault<'a>>
-    ensures { IfOk result (λ declared. declared ≡ list.items) }
+    ensures list { IfOk result (λ declared. declared ≡ list.items) }
+    ensures named { IfErr result (λ fault. fault ≢ NoLog) }
 {
     match Changes::new(list) {
         Some(declared) => Ok(declared),

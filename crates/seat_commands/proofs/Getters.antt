@@ -4,7 +4,8 @@ use Rattle.clap.specs.declared.parser.matches.Found.{Found}
 use Rattle.clap.specs.Words.{first_value, matched_of, raw_values}
 use Rattle.seat_commands.specs.declared.words.Asked.{Asked}
 use Rattle.seat_commands.specs.declared.words.Asked.TheVariants.{Seat, Members, Merge}
-use Rattle.seat_commands.specs.rule.Lines.{HasLogs, IsAsked, IsServedAsked}
+use Rattle.seat_commands.specs.rule.Asking.{IsNamed}
+use Rattle.seat_commands.specs.rule.Lines.{HasLogs, IsServedAsked}
 
 -- the text that a getter gives
 pub has_text : (f : Found) (id : List ℕ) (r : Option (Bor (List ℕ))) → option_map (λ s. s.now) r ≡ first_value f id → IfSome r (λ text. first_value f id ≡ Some text.now)
@@ -17,7 +18,7 @@ pub has_logs : (f : Found) (r : Option (Bor (List (Bor (List ℕ))))) (texts : B
 has_logs f r texts e is = sym e ∙ ap (option_map (λ (s : Bor (List (Bor (List ℕ)))). map (λ (v : Bor (List ℕ)). v.now) s.now)) is
 
 -- what is asked can be done
-pub served : (f : Found) (asked : Asked) → IsAsked f asked → IsServedAsked asked
-served f (Seat line) is = is.inside
-served f (Members line) is = tt
-served f (Merge line) is = tt
+pub served : (name : List ℕ) (f : Found) (asked : Asked) → IsNamed name f asked → IsServedAsked asked
+served name f (Seat line) is = is.1.inside
+served name f (Members line) is = tt
+served name f (Merge line) is = tt

@@ -1,2 +1,7 @@
+pub mod Asking
+pub mod Doings
+pub mod Keeping
 pub mod Lines
 pub mod Names
+pub mod Statuses
+pub mod Table

@@ -1,12 +1,19 @@
 //! The commands as functions of their words.
-ghost use Rattle.std.specs.Prelude.{◌≡◌, is_some, option_map, slice_get};
-ghost use Rattle.seat_keeping.specs.rule.SeatTalks.{IsIn};
+ghost use Rattle.std.specs.Prelude.{◌≡◌, ◌⊎◌, ℕ, List, Option, IfOk, IfSome, None, OnErr, map, option_map, is_some, slice_get};
+ghost use Rattle.std.specs.Io.Buffered.{reader_remaining};
+ghost use Rattle.talks.specs.declared.talk.TalkEnd.TheVariants.{NoMemory};
+ghost use Rattle.replay.specs.rule.Statuses.{status_of};
+ghost use Rattle.seat_keeping.specs.rule.SeatTalks.{IsIn, TalksFor};
+ghost use Rattle.seat_commands.specs.rule.Doings.{Attends, DoesSo};
+ghost use Rattle.seat_commands.specs.rule.Keeping.{HasSeat, KeepsList};
 ghost use Rattle.seat_commands.specs.rule.Lines.{IsServedAsked};
-ghost use Rattle.seat_commands.specs.rule.Names.{is_name, is_name_if};
+ghost use Rattle.seat_commands.specs.rule.Names.{is_help, is_help_if, is_name, is_name_if, is_of_command};
+ghost use Rattle.seat_commands.specs.rule.Statuses.{end_status};
 
 use crate::actor_line::ActorLine;
 use crate::added_file::open_added;
 use crate::members_command::{ListFault, keep_members};
+use crate::members_line::MembersLine;
 use crate::words::{Asked, asked_by};
 use merging::merge_command::merge_command;
 use replay::fault::Fault;
@@ -15,7 +22,7 @@ use replay::respond::refuse;
 use replay::store::Store;
 use seat_keeping::appointment::Appointment;
 use seat_keeping::seat::have_seat;
-use std::alloc::Global;
+use std::alloc::{AllocError, Global};
 use std::convert::AsStr;
 use std::io;
 use std::io::{BufReader, Read, Write};
@@ -24,7 +31,7 @@ use std::time::Clock;
 use talks::talk::TalkEnd;
 
 /// Does what the words ask for, the first of them being the program's name, where the second is `seat`, `members` or
-/// `merge`, and answers the exit status; else it does nothing.
+/// `merge`, or `help` before one of these, and answers the exit status; else it does nothing.
 ///
 /// The status is 0 at the end of the input, or where help was asked for, 2 where the words are wrong, 3 where the input,
 /// the output or a file fails, 4 where memory was short; of `merge` it is that of `merge_command`. At 2 to 4 the second
@@ -38,7 +45,12 @@ pub fn attend<R: Files + Clock, W: AsStr, I: Read + Drop, S: Store, O: Write, E:
     out: &mut O,
     err: &mut E,
 ) -> Option<u8>
-    ensures { is_some result ≡ is_name_if (option_map W.text (slice_get words.now 1)) }
+    ensures here { is_some result ≡ is_of_command (option_map W.text (slice_get words.now 1)) (option_map W.text (slice_get words.now 2)) }
+
+    // Words of other commands are left to those.
+    ensures left { result ≡ None → (store.new ≡ store.old) × (out.new ≡ out.old) × (err.new ≡ err.old) }
+    ensures done { IfSome result (Attends R.File.contents R.File.remaining (S.holds store.old) (S.holds store.new) (I.remaining input)
+        (O.contents out.old) (O.contents out.new) (map W.text words.now)) }
 {
     if !is_here(words) {
         return None;
@@ -49,14 +61,37 @@ pub fn attend<R: Files + Clock, W: AsStr, I: Read + Drop, S: Store, O: Write, E:
     }
 }
 
-// Whether the words are of a command that stands here.
+// Whether the words are of a command that stands here, or ask for its help.
 fn is_here<W: AsStr>(words: &[W]) -> bool
-    ensures { result ≡ is_name_if (option_map W.text (slice_get words.now 1)) }
+    ensures { result ≡ is_of_command (option_map W.text (slice_get words.now 1)) (option_map W.text (slice_get words.now 2)) }
 {
-    match words.get(1) {
+    names_command(words, 1) || (asks_for_help(words) && names_command(words, 2))
+}
+
+// Whether a command that stands here has the name that is this word.
+fn names_command<W: AsStr>(words: &[W], place: usize) -> bool
+    ensures { result ≡ is_name_if (option_map W.text (slice_get words.now place)) }
+{
+    match words.get(place) {
         Some(word) => is_name(word.as_str()),
         None => false,
     }
+}
+
+// Whether the words ask for the help of a command.
+fn asks_for_help<W: AsStr>(words: &[W]) -> bool
+    ensures { result ≡ is_help_if (option_map W.text (slice_get words.now 1)) }
+{
+    match words.get(1) {
+        Some(word) => is_help(word.as_str()),
+        None => false,
+    }
+}
+
+fn is_help(word: &str) -> bool
+    ensures { result ≡ is_help word.now }
+{
+    matches!(word, "help")
 }
 
 // Whether a command that stands here has the name.
@@ -77,39 +112,66 @@ fn done<R: Files + Clock, I: Read + Drop, S: Store, O: Write, E: Write>(
     err: &mut E,
 ) -> u8
     requires { IsServedAsked line.now }
-{
-    match BufReader::new(alloc, input) {
-        Ok(reader) => {
-            let mut reader = reader;
-            done_by(rt, alloc, line, &mut reader, store, out, err)
-        }
-        Err(_) => told(&Fault::NoMemory, err),
-    }
-}
-
-// The same, with a reader.
-fn done_by<R: Files + Clock, I: Read, S: Store, O: Write, E: Write>(
-    rt: &R,
-    alloc: Global,
-    line: &Asked<'_>,
-    reader: &mut I,
-    store: &mut S,
-    out: &mut O,
-    err: &mut E,
-) -> u8
-    requires { IsServedAsked line.now }
+    ensures { DoesSo R.File.contents R.File.remaining (S.holds store.old) (S.holds store.new)
+        (I.remaining input) (O.contents out.old) (O.contents out.new) line.now result }
 {
     match line {
-        Asked::Seat(line) => match seated(rt, alloc, line, reader, store, out) {
+        Asked::Seat(line) => match seated_by(rt, alloc, line, input, store, out) {
             Ok(end) => told_end(end, line.log, err),
             Err(fault) => told(&fault.fault(alloc, line.log.unwrap_or("")), err),
         },
-        Asked::Members(line) => match keep_members(rt, alloc, line, reader, store, out) {
+        Asked::Members(line) => match kept_by(rt, alloc, line, input, store, out) {
             Ok(end) => told_end(end, None, err),
             Err(fault) => told(&fault.fault(alloc, line.state), err),
         },
         Asked::Merge(line) => merge_command(alloc, store, line, out, err),
     }
+}
+
+// The input, of which more is read at once than is asked for.
+fn buffered<I: Read + Drop>(alloc: Global, input: I) -> Result<BufReader<I>, AllocError>
+    ensures { IfOk result (λ reader. reader_remaining I.remaining reader ≡ I.remaining input) }
+{
+    match BufReader::new(alloc, input) {
+        Ok(reader) => Ok(reader),
+        Err(_) => Err(AllocError),
+    }
+}
+
+// Keeps the list of the line, as the input asks.
+fn kept_by<R: Files + Clock, I: Read + Drop, S: Store, O: Write>(
+    rt: &R,
+    alloc: Global,
+    line: &MembersLine<'_>,
+    input: I,
+    store: &mut S,
+    out: &mut O,
+) -> Result<TalkEnd, ListFault>
+    ensures kept { IfOk result (λ end. (left : Option (List ℕ)) × KeepsList R.File.contents R.File.remaining line.now end (I.remaining input) left
+        (O.contents out.old) (O.contents out.new)) }
+    ensures failed { OnErr result ((out.new ≡ out.old) ⊎ ((left : Option (List ℕ)) × KeepsList R.File.contents R.File.remaining line.now NoMemory
+        (I.remaining input) left (O.contents out.old) (O.contents out.new))) }
+{
+    let mut reader = buffered(alloc, input)?;
+    keep_members(rt, alloc, line, &mut reader, store, out)
+}
+
+// Has the seat of the line's actor, as the input tells it.
+fn seated_by<R: Files + Clock, I: Read + Drop, S: Store, O: Write>(
+    rt: &R,
+    alloc: Global,
+    line: &ActorLine<'_>,
+    input: I,
+    store: &mut S,
+    out: &mut O,
+) -> Result<TalkEnd, ListFault>
+    requires { IsIn line.now.appointment.shape line.now.appointment.actor }
+    ensures talks { IfOk result (λ end. (left : Option (List ℕ)) × HasSeat R.File.contents line.now end (I.remaining input) left
+        (O.contents out.old) (O.contents out.new)) }
+    ensures untouched { OnErr result (out.new ≡ out.old) }
+{
+    let mut reader = buffered(alloc, input)?;
+    seated(rt, alloc, line, &mut reader, store, out)
 }
 
 // Has the seat of the line's actor, with its log.
@@ -122,6 +184,9 @@ fn seated<R: Files + Clock, I: Read, S: Store, O: Write>(
     out: &mut O,
 ) -> Result<TalkEnd, ListFault>
     requires { IsIn line.now.appointment.shape line.now.appointment.actor }
+    ensures talks { IfOk result (λ end. HasSeat R.File.contents line.now end (I.remaining reader.old) (I.remaining reader.new)
+        (O.contents out.old) (O.contents out.new)) }
+    ensures untouched { OnErr result ((reader.new ≡ reader.old) × (out.new ≡ out.old)) }
 {
     match line.log {
         Some(path) => {
@@ -142,6 +207,9 @@ fn logged<R: Clock, I: Read, L: Write + Drop, O: Write>(
     out: &mut O,
 ) -> Result<TalkEnd, ListFault>
     requires { IsIn appointment.now.shape appointment.now.actor }
+    ensures talks { IfOk result (λ end. (after : L) × TalksFor appointment.now appointment.now.actor end (I.remaining reader.old) (I.remaining reader.new)
+        (L.contents log) (L.contents after) (O.contents out.old) (O.contents out.new)) }
+    ensures untouched { OnErr result ((reader.new ≡ reader.old) × (out.new ≡ out.old)) }
 {
     let mut log = log;
     match have_seat(rt, alloc, appointment, reader, &mut log, out) {
@@ -151,13 +219,17 @@ fn logged<R: Clock, I: Read, L: Write + Drop, O: Write>(
 }
 
 // Writes why a command was not done, and answers its exit status.
-fn told<E: Output>(fault: &Fault<'_>, err: &mut E) -> u8 {
+fn told<E: Output>(fault: &Fault<'_>, err: &mut E) -> u8
+    ensures { result ≡ status_of fault.now }
+{
     let _ = fault.write_reasoned(err);
     fault.status()
 }
 
 // Writes why a talk ended, unless that is the end of the input, and answers the exit status. Its log has this path.
-fn told_end<E: Output>(end: TalkEnd, log: Option<&str>, err: &mut E) -> u8 {
+fn told_end<E: Output>(end: TalkEnd, log: Option<&str>, err: &mut E) -> u8
+    ensures { result ≡ end_status end }
+{
     match end {
         TalkEnd::AtEnd => 0,
         TalkEnd::NoMemory => told(&Fault::NoMemory, err),
@@ -170,7 +242,9 @@ fn told_end<E: Output>(end: TalkEnd, log: Option<&str>, err: &mut E) -> u8 {
 }
 
 // Writes that standard output or the log failed, and answers the exit status.
-fn told_unwritten<E: Output>(log: Option<&str>, err: &mut E) -> u8 {
+fn told_unwritten<E: Output>(log: Option<&str>, err: &mut E) -> u8
+    ensures { result ≡ 3 }
+{
     let Some(path) = log else {
         return told(&Fault::CannotWriteOutput, err);
     };

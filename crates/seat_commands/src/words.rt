@@ -1,9 +1,12 @@
 //! What the words of a command line ask for.
-ghost use Rattle.std.specs.Prelude.{◌≡◌, ◌≤◌, codes, decimal, map, IfOk, IfSome, Some};
-ghost use Rattle.clap.specs.Words.{first_value, found_of, one_text};
+ghost use Rattle.std.specs.Prelude.{◌≡◌, ◌≤◌, ◌⊎◌, codes, decimal, map, IfErr, IfOk, IfSome, Some};
+ghost use Rattle.clap.specs.Words.{app_of, first_value, found_of, kind_of, one_text, subcommand_rows_of};
+ghost use Rattle.clap.specs.declared.error.kind.ErrorKind.TheVariants.{OutOfMemory, ValueValidation};
 ghost use Rattle.texts.specs.rule.Words.{policy_text};
 ghost use Rattle.seat_keeping.specs.rule.SeatTalks.{IsIn};
-ghost use Rattle.seat_commands.specs.rule.Lines.{HasActor, HasFlag, HasLogs, HasShape, IsAsked, IsServedAsked};
+ghost use Rattle.seat_commands.specs.rule.Asking.{AsksFor, IsKindOf, IsMet, IsNamed, IsRefusal};
+ghost use Rattle.seat_commands.specs.rule.Lines.{HasActor, HasFlag, HasLogs, HasShape, IsServedAsked};
+ghost use Rattle.seat_commands.specs.rule.Table.{IsTable};
 
 use crate::actor_line::ActorLine;
 use crate::members_line::MembersLine;
@@ -47,39 +50,48 @@ pub(crate) enum Asked<'a> {
 /// What is shown in its place: what is wrong with the words, or the help that they ask for; `NoMemory` where a request for
 /// memory was refused.
 pub(crate) fn asked_by<'a, S: AsStr>(alloc: Global, words: &'a [S]) -> Result<Asked<'a>, Refusal>
-    ensures { IfOk result IsServedAsked }
+    ensures asked { IfOk result (AsksFor (map S.text words.entry.now)) }
+    ensures served { IfOk result IsServedAsked }
+    ensures refused { IfErr result (IsRefusal (map S.text words.entry.now)) }
 {
     match asked_in(alloc, words) {
         Ok(line) => Ok(line),
-        Err(error) => Err(refusal_of(alloc, &error)),
-    }
-}
-
-// What the parser's error says.
-fn refusal_of(alloc: Global, error: &Error) -> Refusal {
-    if error.kind() == ErrorKind::OutOfMemory {
-        return Refusal::NoMemory;
-    }
-    match error.to_string(alloc) {
-        Ok(text) if error.use_stderr() => Refusal::Wrong(text),
-        Ok(text) => Refusal::Help(text),
-        Err(_) => Refusal::NoMemory,
+        Err(error) => Err(Refusal::of(alloc, &error)),
     }
 }
 
 fn asked_in<'a, S: AsStr>(alloc: Global, words: &'a [S]) -> Result<Asked<'a>, Error>
-    ensures { IfOk result IsServedAsked }
+    ensures asked { IfOk result (AsksFor (map S.text words.entry.now)) }
+    ensures served { IfOk result IsServedAsked }
+    ensures kind { IfErr result (λ error. IsKindOf (map S.text words.entry.now) (kind_of error)) }
 {
     let mut command = program(alloc)?;
+    asked_of(alloc, &mut command, words)
+}
+
+// What the command of the table makes of the words, or its error.
+fn asked_of<'a, S: AsStr>(
+    alloc: Global,
+    command: &mut Command<'a>,
+    words: &'a [S],
+) -> Result<Asked<'a>, Error>
+    requires { IsTable (app_of command.old) }
+    ensures asked { IfOk result (AsksFor (map S.text words.entry.now)) }
+    ensures served { IfOk result IsServedAsked }
+    ensures kind { IfErr result (λ error. IsKindOf (map S.text words.entry.now) (kind_of error)) }
+{
     let matches = command.try_get_matches_from_mut(words)?;
-    match line_of(alloc, &matches)? {
+    let met = line_of(alloc, &matches)?;
+    match met {
         Some(line) => Ok(line),
-        None => Err(unserved(&mut command)),
+        None => Err(unserved(command)),
     }
 }
 
 // The error of words with which nothing is wrong by the table, but which come to no line.
-fn unserved(command: &mut Command<'_>) -> Error {
+fn unserved(command: &mut Command<'_>) -> Error
+    ensures { (kind_of result ≡ ValueValidation) ⊎ (kind_of result ≡ OutOfMemory) }
+{
     let message =
         "there is no such actor in the cluster, a number is not written plainly, or --journal is missing";
     match command.error(ErrorKind::ValueValidation, message) {
@@ -90,7 +102,8 @@ fn unserved(command: &mut Command<'_>) -> Error {
 
 #[tactic(auto, using(crate::proofs::Getters::served))]
 fn line_of<'a>(alloc: Global, matches: &ArgMatches<'a>) -> Result<Option<Asked<'a>>, AllocError>
-    ensures { IfOk result (λ asked. IfSome asked IsServedAsked) }
+    ensures met { IfOk result (λ asked. IfSome asked (IsMet (subcommand_rows_of matches.now))) }
+    ensures served { IfOk result (λ asked. IfSome asked IsServedAsked) }
 {
     let Some((name, values)) = matches.subcommand() else {
         return Ok(None);
@@ -104,7 +117,7 @@ fn line_of<'a>(alloc: Global, matches: &ArgMatches<'a>) -> Result<Option<Asked<'
 }
 
 fn seat_in<'a>(values: &ArgMatches<'a>) -> Option<Asked<'a>>
-    ensures { IfSome result (IsAsked (found_of values.now)) }
+    ensures { IfSome result (IsNamed (codes "seat") (found_of values.now)) }
 {
     let policy = policy_in(values)?;
     let shape = shape_in(values, policy)?;
@@ -126,7 +139,7 @@ fn seat_in<'a>(values: &ArgMatches<'a>) -> Option<Asked<'a>>
 }
 
 fn members_in<'a>(values: &ArgMatches<'a>) -> Option<Asked<'a>>
-    ensures { IfSome result (IsAsked (found_of values.now)) }
+    ensures { IfSome result (IsNamed (codes "members") (found_of values.now)) }
 {
     let shape = shape_in(values, Policy::Wide)?;
     let state = text_in(values, "STATE")?;
@@ -140,7 +153,7 @@ fn members_in<'a>(values: &ArgMatches<'a>) -> Option<Asked<'a>>
 
 #[tactic(auto, using(crate::proofs::Getters::has_logs))]
 fn merge_in<'a>(alloc: Global, values: &ArgMatches<'a>) -> Result<Option<Asked<'a>>, AllocError>
-    ensures { IfOk result (λ asked. IfSome asked (IsAsked (found_of values.now))) }
+    ensures { IfOk result (λ asked. IfSome asked (IsNamed (codes "merge") (found_of values.now))) }
 {
     let Some(paths) = values.get_strs("LOG") else {
         return Ok(None);
@@ -152,7 +165,7 @@ fn merge_in<'a>(alloc: Global, values: &ArgMatches<'a>) -> Result<Option<Asked<'
 
 fn merge_line_in<'a>(values: &ArgMatches<'a>, logs: Vec<&'a str>) -> Option<Asked<'a>>
     requires { HasLogs (found_of values.now) (map (λ path. path.now) logs.items) }
-    ensures { IfSome result (IsAsked (found_of values.now)) }
+    ensures { IfSome result (IsNamed (codes "merge") (found_of values.now)) }
 {
     let journal = values.get_str("JOURNAL");
     let skew = number_in(values, "N", 0, GREATEST_SKEW)?;

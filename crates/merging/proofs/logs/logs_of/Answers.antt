@@ -1,5 +1,6 @@
 use Rattle.replay.proofs.Paths.{nothing}
-use Rattle.merging.proofs.Having.{read_more, same_after}
+use Rattle.replay.proofs.Stores.{same-after}
+use Rattle.merging.proofs.Having.{read_more}
 use Rattle.merging.proofs.logs.logs_of.Goals as goal
 
 pub loop-path-preserved : goal.loop-path-preserved
@@ -10,5 +11,5 @@ loop-path-preserved g c =
       have =
           read_more (holds c.args.store.now) (holds c.loop-path.store) c.args.paths.now c.loop-path.path-index nothing c.loop-path.logs.items c.push.new.self.items _
           c.loop-path-test.true at_loop.have at_loop.files c.in_ok-log_of.ensures.log c.in_ok-push.ensures.items;
-      files = same_after (holds c.args.store.now) (holds c.loop-path.store) (holds c.log_of.new.store) at_loop.files c.log_of.ensures.files;
+      files = same-after (holds c.args.store.now) (holds c.loop-path.store) (holds c.log_of.new.store) at_loop.files c.log_of.ensures.files;
     }

@@ -2,7 +2,8 @@ use Rattle.std.proofs.Common.{sym, ap, ◌∙◌}
 use Rattle.std.specs.Prelude.{List, ℕ}
 use Rattle.std.proofs.lemmas.Result.{on_ok_weaker}
 use Rattle.merging.specs.rule.Merging.{path_of}
-use Rattle.merging.proofs.Having.{changes_none, changes_target, has_target, no_target, same}
+use Rattle.replay.proofs.Stores.{same}
+use Rattle.merging.proofs.Having.{changes_none, changes_target, has_target, no_target}
 use Rattle.merging.proofs.merge_command.put_in_place.Goals as goal
 
 pub returns-in-Some-clause-written : goal.returns-in-Some-clause-written
