@@ -6,7 +6,7 @@ import subprocess
 NAME = "lockreplay"
 FILES = ("SCRIPT", "JOURNAL", "RECORDING", "HISTORY", "FILE", "LOG", "STATE", "MEMBERS")
 HEADINGS = ("Usage:", "Commands:", "Arguments:", "Options:")
-# Commands that have their help of their own, and of which the list in the program's help says nothing.
+# Commands of which the list in the program's help says nothing.
 APART = ("seat", "members", "merge")
 COMMAND = re.compile(r"  (\S+)  +(.+)")
 OPERAND = re.compile(r"  [<\[](\w+)[>\]](\.\.\.)?(?:  (.+))?")
@@ -34,7 +34,7 @@ def read(program):
     found = [command_of(NAME, whole)]
     told = [COMMAND.fullmatch(line)[1] for line in names]
     for name in [*told[:-1], *APART, told[-1]]:
-        help_of, _ = sections(printed(program, *((name, "--help") if name in APART else ("help", name))))
+        help_of, _ = sections(printed(program, "help", name))
         found.append(command_of(name, help_of))
     return found
 
