@@ -1,13 +1,15 @@
 //! The nodes of a cluster, as the token server of a file knows them. A function here that gives a `Result` answers
 //! `AllocError` where a request for memory was refused.
-ghost use Rattle.std.specs.Prelude.{◌≡◌, ◌≢◌, ℕ, ◌+◌, ◌<◌, ◌≤◌, ◌↔◌, true, length, IsTrue, IfOk, IfSome, OnSome, MatchOption, [], ◌∷◌, ◌++◌, ◌==◌, Some, None};
+ghost use Rattle.std.specs.Prelude.{◌≡◌, ◌≢◌, ℕ, ◌+◌, ◌<◌, ◌≤◌, ◌↔◌, true, false, length, IsTrue, IfOk, IfSome, OnSome, MatchOption, [], ◌∷◌, ◌++◌, ◌==◌, Some, None};
 ghost use Rattle.std.specs.List.{list_any};
 ghost use Rattle.std.specs.Option.{option_copied};
+ghost use Rattle.intervals.specs.rule.Bytes.{Range, greatest};
 ghost use Rattle.intervals.specs.rule.Search.{some_passes};
+ghost use Rattle.model.specs.declared.mode.Mode.{Mode};
 ghost use Rattle.model.specs.rule.Limits.{IsNumber, most_nodes};
 ghost use Rattle.messages.specs.rule.Epochs.{before_epoch};
 ghost use Rattle.members.specs.rule.Parts.{members_state};
-ghost use Rattle.token_server.specs.rule.Rows.{is_awaited, outstanding_to, row_of_incarnation};
+ghost use Rattle.token_server.specs.rule.Rows.{is_awaited, outstanding_to, row_conflicts, row_of_incarnation};
 ghost use Rattle.token_server.specs.code.Rebuilds.{rebuilt_rows, rebuilt_dead, AreRebuilt};
 ghost use Rattle.token_server.specs.rule.RowParts.{row_seen, row_state, known_node_at, rows_of, deaths_of, SameKnownNodes};
 ghost use Rattle.token_server.specs.code.Changes.{rows_after, deaths_after};
@@ -221,6 +223,21 @@ impl KnownNodes {
         match edit {
             Some(edit) => !edit.given.may_exclude(),
             None => true,
+        }
+    }
+
+    /// Whether a quick look says that the token of the node has no byte after the edit, so that its row blocks nothing.
+    /// `false` says nothing.
+    pub fn blocks_nothing(&self, edit: &Option<RowEdit>, node: u8) -> bool
+        requires { 1 ≤ node }
+        ensures { result ≡ true → (s : Range) (mode : Mode) → s.hi ≤ greatest → row_conflicts (rows_overlaid self.now edit.now node) s mode ≡ false }
+    {
+        match edit {
+            Some(edit) if edit.given.place == usize::from(node) - 1 => false,
+            _ => match self.row(node) {
+                Some(row) => row.token.holds_nothing(),
+                None => true,
+            },
         }
     }
 

@@ -37,8 +37,13 @@ impl Server {
         if request.is_of_node(node) {
             return false;
         }
+        let required = request.required();
+        let _ = &required.lo; // tells the proof that the span ends in the file
+        if self.known_nodes.blocks_nothing(rows, node) {
+            return false;
+        }
         match self.known_nodes.row_after(rows, node) {
-            Some(row) => row.token.conflicts(request.required(), request.mode),
+            Some(row) => row.token.conflicts(required, request.mode),
             None => false,
         }
     }
