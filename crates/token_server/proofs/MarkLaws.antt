@@ -1,14 +1,11 @@
 -- What is known of rows of which none has an exclusive byte.
-use Rattle.std.specs.Prelude.{◌≡◌, ℕ, zero, suc, ◌+◌, ◌<◌, ◌≤◌, Bool, cond, true, false, ◌||◌, List, [], ◌∷◌, length, slice_get, slice_set, slice_index_or, Option, Some, None, is_none}
+use Rattle.std.specs.Prelude.{◌≡◌, ℕ, zero, suc, ◌+◌, ◌<◌, ◌≤◌, Bool, cond, true, false, ◌||◌, List, [], ◌∷◌, length, slice_get, slice_set, slice_index_or, Option, Some, None}
 use Rattle.std.proofs.Common.{refl, sym, ap, ◌∙◌, inl, inr, arith}
 use Rattle.std.proofs.lemmas.List.{length-set}
-use Rattle.std.proofs.lemmas.Bool.{both_ways, false_from_ne_true, false≢true, or_parts}
+use Rattle.std.proofs.lemmas.Bool.{both_ways, false_from_ne_true, or_parts}
 use Rattle.std.proofs.lemmas.Bool.Decides.{eqb_tells}
 use Rattle.intervals.specs.rule.Bytes.{Range, greatest, whole, NoneIn}
-use Rattle.model.specs.declared.level.Level.{Level}
 use Rattle.model.specs.declared.mode.Mode.TheVariants.{Read}
-use Rattle.token_set.specs.rule.Tokens.{Token, conflicts, level_conflicts, holds_nothing}
-use Rattle.token_set.proofs.SearchLaws.{all_pass-each}
 use Rattle.token_set.proofs.TokenLaws.{conflicts-none, none-conflicts}
 use Rattle.token_server.specs.declared.known_nodes.known_node.KnownNode.{KnownNode}
 use Rattle.token_server.specs.declared.known_nodes.row_edit.RowEdit.{RowEdit}
@@ -77,12 +74,3 @@ exclusive-noted known_nodes place new read noted mark within before at made unma
 -- where no node has a row, no row has an exclusive byte
 pub exclusive-new : (known_nodes : List KnownNode) → rows_of known_nodes ≡ (λ node. None) → NoneExclusive (rows_of known_nodes)
 exclusive-new known_nodes none node b within = ap (λ (rows : ℕ → Option Row). row_conflicts_at (rows node) b Read) none
-
--- a byte without a level conflicts with nothing
-level-free : (level : Option Level) (mode : Mode) → is_none level ≡ true → level_conflicts level mode ≡ true → ⊥
-level-free None mode none here = false≢true here
-level-free (Some level) mode none here = false≢true none
-
--- a token that holds nothing conflicts with nothing
-pub nothing-free : (t : Token) (s : Range) (mode : Mode) → holds_nothing t ≡ true → s.hi ≤ greatest → conflicts t s mode ≡ false
-nothing-free t s mode none within = conflicts-none t s mode (λ b above below here. level-free (t b) mode (all_pass-each (λ k. is_none (t k)) 0 9223372036854775808 b none (omega arith) (omega arith)) here)

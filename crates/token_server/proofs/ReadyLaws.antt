@@ -92,11 +92,11 @@ many-fewer Waiting d rs = without-fewer d rs
 many-fewer (PutOff r) d rs = omega arith
 
 -- where there is room for some, there is room for fewer
-pub room-fewer : (l : LineParts) (spare : Option LineParts) (more less : ℕ) → less ≤ more → HasRoom l spare more → HasRoom l spare less
+pub room-fewer : (l : LineParts) (spare : Option (Box LineParts)) (more less : ℕ) → less ≤ more → HasRoom l spare more → HasRoom l spare less
 room-fewer l None more less fewer room = omega arith
 room-fewer l (Some spare) more less fewer room = (room.0, omega (arith, room.1))
 
-pub room-none : (l : LineParts) (spare : Option LineParts) (more : ℕ) → HasRoom l spare more → HasRoom l spare 0
+pub room-none : (l : LineParts) (spare : Option (Box LineParts)) (more : ℕ) → HasRoom l spare more → HasRoom l spare 0
 room-none l spare more room = room-fewer l spare more 0 (omega arith) room
 
 pub held_room-none : (a : ActiveParts) (spare : Option (Vec ActiveRequest Global)) (more : ℕ) → HeldHasRoom a spare more → HeldHasRoom a spare 0

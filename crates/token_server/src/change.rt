@@ -21,8 +21,8 @@ pub struct ServerEdit {
     pub fresh: Vec<ActiveRequest>,
     pub given: Vec<NewRow>,
     pub active_spare: Option<Vec<ActiveRequest>>,
-    pub queue_spare: Option<Line>,
-    pub waiting_spare: Option<Line>,
+    pub queue_spare: Option<Box<Line>>,
+    pub waiting_spare: Option<Box<Line>>,
 }
 
 /// A planned step: its change, in a box, because many calls hand it up by value, and its outcome.

@@ -211,7 +211,7 @@ impl TokenSet {
     {
         match mode {
             Mode::Read => !self.may_exclude,
-            Mode::Write => false,
+            Mode::Write => self.levels.is_empty(),
         }
     }
 

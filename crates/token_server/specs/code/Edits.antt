@@ -126,9 +126,9 @@ many_put_off (PutOff r) = 1
 many_put_off _ = 0
 
 -- a line has room for that many more, or the spare line that comes with the change has room for all
-abbrev pub HasRoom : LineParts → Option LineParts → ℕ → Type 0
+abbrev pub HasRoom : LineParts → Option (Box LineParts) → ℕ → Type 0
 HasRoom l None more = more ≤ l.room
-HasRoom l (Some spare) more = (spare.requests ≡ []) × (length l.requests + more ≤ spare.room)
+HasRoom l (Some spare) more = (spare.value.requests ≡ []) × (length l.requests + more ≤ spare.value.room)
 
 abbrev pub HeldHasRoom : ActiveParts → Option (Vec ActiveRequest Global) → ℕ → Type 0
 HeldHasRoom a None more = more ≤ a.room

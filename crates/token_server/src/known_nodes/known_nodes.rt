@@ -1,11 +1,9 @@
 //! The nodes of a cluster, as the token server of a file knows them. A function here that gives a `Result` answers
 //! `AllocError` where a request for memory was refused.
-ghost use Rattle.std.specs.Prelude.{◌≡◌, ◌≢◌, ℕ, ◌+◌, ◌<◌, ◌≤◌, ◌↔◌, true, false, length, IsTrue, IfOk, IfSome, OnSome, MatchOption, [], ◌∷◌, ◌++◌, ◌==◌, Some, None};
+ghost use Rattle.std.specs.Prelude.{◌≡◌, ◌≢◌, ℕ, ◌+◌, ◌<◌, ◌≤◌, ◌↔◌, true, length, IsTrue, IfOk, IfSome, OnSome, MatchOption, [], ◌∷◌, ◌++◌, ◌==◌, Some, None};
 ghost use Rattle.std.specs.List.{list_any};
 ghost use Rattle.std.specs.Option.{option_copied};
-ghost use Rattle.intervals.specs.rule.Bytes.{Range, greatest};
 ghost use Rattle.intervals.specs.rule.Search.{some_passes};
-ghost use Rattle.model.specs.declared.mode.Mode.{Mode};
 ghost use Rattle.model.specs.rule.Limits.{IsNumber, most_nodes};
 ghost use Rattle.messages.specs.rule.Epochs.{before_epoch};
 ghost use Rattle.members.specs.rule.Parts.{members_state};
@@ -23,12 +21,14 @@ use crate::known_nodes::new_row::NewRow;
 use crate::known_nodes::row_edit::RowEdit;
 use crate::known_nodes::server_command::ServerCommand;
 use crate::known_nodes::token_holder::{RowView, TokenHolder};
+use intervals::span::Span;
 use members::members::Members;
 use messages::epoch_number::EpochNumber;
 use messages::file_number::FileNumber;
 use messages::sends::Sends;
 use messages::shape::Shape;
 use model::host::Host;
+use model::mode::Mode;
 use std::alloc::{AllocError, Global};
 use std::marker::Model;
 
@@ -213,6 +213,36 @@ impl KnownNodes {
         }
     }
 
+    /// Whether the row of the node (from 1) conflicts, after the edit, with a lock of the mode that another node wants on
+    /// the span.
+    pub fn conflicts(&self, edit: &Option<RowEdit>, node: u8, span: Span, mode: Mode) -> bool
+        requires { 1 ≤ node }
+        ensures { result ≡ row_conflicts (rows_overlaid self.now edit.now node) span mode }
+    {
+        match edit {
+            Some(edit) if edit.given.place == usize::from(node) - 1 => self.conflicts_after(
+                edit, span, mode,
+            ),
+            _ => match self.row(node) {
+                Some(row) => row.token.conflicts(span, mode),
+                None => false,
+            },
+        }
+    }
+
+    // Whether the row that the edit makes conflicts with a lock of the mode that another node wants on the span.
+    fn conflicts_after(&self, edit: &RowEdit, span: Span, mode: Mode) -> bool
+        ensures { result ≡ row_conflicts (rows_overlaid self.now (Some edit.now) (edit.now.given.place + 1)) span mode }
+    {
+        let Some(known_node) = self.nodes.get(edit.given.place) else {
+            return false;
+        };
+        match edit.given.row_over(known_node) {
+            Some(row) => row.token.conflicts(span, mode),
+            None => false,
+        }
+    }
+
     /// Whether a quick look says that no row has an exclusive byte after the edit. `false` says nothing.
     pub fn excludes_none(&self, edit: &Option<RowEdit>) -> bool
         ensures { result ≡ true → NoneExclusive (rows_overlaid self.now edit.now) }
@@ -223,21 +253,6 @@ impl KnownNodes {
         match edit {
             Some(edit) => !edit.given.may_exclude(),
             None => true,
-        }
-    }
-
-    /// Whether a quick look says that the token of the node has no byte after the edit, so that its row blocks nothing.
-    /// `false` says nothing.
-    pub fn blocks_nothing(&self, edit: &Option<RowEdit>, node: u8) -> bool
-        requires { 1 ≤ node }
-        ensures { result ≡ true → (s : Range) (mode : Mode) → s.hi ≤ greatest → row_conflicts (rows_overlaid self.now edit.now node) s mode ≡ false }
-    {
-        match edit {
-            Some(edit) if edit.given.place == usize::from(node) - 1 => false,
-            _ => match self.row(node) {
-                Some(row) => row.token.holds_nothing(),
-                None => true,
-            },
         }
     }
 

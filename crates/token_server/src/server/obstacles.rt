@@ -25,27 +25,15 @@ use std::alloc::{AllocError, Global};
 
 impl Server {
     // Whether the row of another node conflicts with the bytes that the request needs.
-    fn stands_in_way<'a>(
-        &'a self,
-        rows: &'a Option<RowEdit>,
-        node: u8,
-        request: &TokenRequest,
-    ) -> bool
+    fn stands_in_way(&self, rows: &Option<RowEdit>, node: u8, request: &TokenRequest) -> bool
         requires { IsNumber self.now.shape.nodes node }
         ensures { result ≡ (not (node == request.now.call.node) && row_conflicts ((reached self.now rows.now).rows node) request.now.wanted.required request.now.mode) }
     {
         if request.is_of_node(node) {
             return false;
         }
-        let required = request.required();
-        let _ = &required.lo; // tells the proof that the span ends in the file
-        if self.known_nodes.blocks_nothing(rows, node) {
-            return false;
-        }
-        match self.known_nodes.row_after(rows, node) {
-            Some(row) => row.token.conflicts(required, request.mode),
-            None => false,
-        }
+        self.known_nodes
+            .conflicts(rows, node, request.required(), request.mode)
     }
 
     // The least other node whose row conflicts with the bytes that the request needs, if there is one.

@@ -202,8 +202,8 @@ impl Line {
 
     /// An empty line for `refill`, where the line has too little room for `more` requests: with room for twice as many
     /// as the requests here and `more` together, and a few. If these together are more than `usize` counts, memory is
-    /// refused.
-    pub fn spare_for(&self, more: usize) -> Result<Option<Line>, AllocError>
+    /// refused. (In a box, since a change seldom has one and is handed on often.)
+    pub fn spare_for(&self, more: usize) -> Result<Option<Box<Line>>, AllocError>
         ensures { IfOk result (λ spare. HasRoom self.now spare more) }
     {
         if more <= self.room() {
@@ -213,19 +213,21 @@ impl Line {
             return Err(AllocError);
         };
         let ample = needed.saturating_add(needed).saturating_add(LEAST_ROOM);
-        Ok(Some(Line::with_room(self.allocator(), ample)?))
+        let alloc = self.allocator();
+        Ok(Some(Box::new(alloc, Line::with_room(alloc, ample)?)?))
     }
 
     /// Moves the requests into the empty spare line, if there is one, whose room the line has from then on. Takes no
     /// memory.
-    pub fn refill(&mut self, spare: Option<Line>)
+    pub fn refill(&mut self, spare: Option<Box<Line>>)
         requires { HasRoom self.old spare 0 }
         ensures requests { self.new.requests ≡ self.old.requests }
         ensures room { (more : ℕ) → HasRoom self.old spare more → more ≤ self.new.room }
     {
-        let Some(mut spare) = spare else {
+        let Some(spare) = spare else {
             return;
         };
+        let mut spare = Box::into_inner(spare);
         let _count = self.len(); // tells the proof that no two are of one call
         spare.push_all(self.slots());
         *self = spare;
