@@ -7,7 +7,7 @@ ghost use Rattle.lockscript.specs.rule.Texts.{reply_text};
 use message_text::names::push_lock;
 use model::reply::Reply;
 use std::alloc::AllocError;
-use std::fmt::Write;
+use texts::number::push_number;
 
 /// Adds the text of a reply.
 pub fn push_reply(out: &mut String, reply: &Reply) -> Result<(), AllocError>
@@ -15,7 +15,10 @@ pub fn push_reply(out: &mut String, reply: &Reply) -> Result<(), AllocError>
 {
     match reply {
         Reply::Done => out.push_str("done"),
-        Reply::Fd(fd) => write!(out, "fd {fd}"),
+        Reply::Fd(fd) => {
+            out.push_str("fd ")?;
+            push_number(out, *fd)
+        }
         Reply::Again(lock) => {
             out.push_str("again ")?;
             push_lock(out, lock)

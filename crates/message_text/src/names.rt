@@ -16,7 +16,6 @@ use model::lock_info::LockInfo;
 use model::mode::Mode;
 use model::owner::{Kind, Owner};
 use std::alloc::AllocError;
-use std::fmt::Write;
 use texts::number::push_number;
 use texts::text::{Text, Word, after};
 use texts::words::Named;
@@ -53,9 +52,9 @@ pub fn push_call(out: &mut String, call: &CallId) -> Result<(), AllocError>
 pub fn push_owner(out: &mut String, owner: &Owner) -> Result<(), AllocError>
     ensures { OnOk result (string_bytes out.new ≡ string_bytes out.old ++ owner_text owner.now) }
 {
-    let letter = letter_of(owner.kind);
-    let number = owner.number;
-    write!(out, "{letter}{number}@")?;
+    out.push_str(letter_of(owner.kind))?;
+    push_number(out, owner.number)?;
+    out.push_str("@")?;
     push_host(out, owner.node, owner.incarnation)
 }
 
@@ -63,10 +62,12 @@ pub fn push_owner(out: &mut String, owner: &Owner) -> Result<(), AllocError>
 pub fn push_lock(out: &mut String, lock: &LockInfo) -> Result<(), AllocError>
     ensures { OnOk result (string_bytes out.new ≡ string_bytes out.old ++ lock_text lock.now) }
 {
-    let mode = Mode::word(lock.mode);
-    let lo = lock.span.lo;
-    let hi = lock.span.hi;
-    write!(out, "{mode} {lo} {hi} ")?;
+    out.push_str(Mode::word(lock.mode))?;
+    out.push_str(" ")?;
+    push_number(out, lock.span.lo)?;
+    out.push_str(" ")?;
+    push_number(out, lock.span.hi)?;
+    out.push_str(" ")?;
     push_owner(out, &lock.owner)
 }
 
