@@ -154,7 +154,7 @@ _lockreplay() {
         esac
         ;;
     help)
-        ((COMP_CWORD > 2)) || _lockreplay_words 'run threads audit history explain open state check picture stats from-strace explore schedule judge'
+        ((COMP_CWORD > 2)) || _lockreplay_words 'run threads audit history explain open state check picture stats from-strace explore schedule judge seat members merge'
         ;;
     esac
 }

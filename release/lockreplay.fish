@@ -182,3 +182,6 @@ complete -c lockreplay -n __lockreplay_helps -a from-strace
 complete -c lockreplay -n __lockreplay_helps -a explore
 complete -c lockreplay -n __lockreplay_helps -a schedule
 complete -c lockreplay -n __lockreplay_helps -a judge
+complete -c lockreplay -n __lockreplay_helps -a seat
+complete -c lockreplay -n __lockreplay_helps -a members
+complete -c lockreplay -n __lockreplay_helps -a merge
