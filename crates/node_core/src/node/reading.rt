@@ -16,7 +16,7 @@ use model::process::Process;
 
 impl Node {
     #[tactic(auto, unfolding(crate::specs::rule::Parts::node_state))]
-    fn process(&self, pid: u16) -> Process
+    pub(super) fn process(&self, pid: u16) -> Process
         requires { IsNumber most_processes pid }
         ensures { result ≡ process (node_state self.now) pid }
     {
@@ -28,7 +28,7 @@ impl Node {
     }
 
     #[tactic(auto, unfolding(crate::specs::rule::Parts::node_state))]
-    fn id(&self, number: u32) -> CallId
+    pub(super) fn id(&self, number: u32) -> CallId
         requires { 1 ≤ number }
         ensures { result ≡ id_of (node_state self.now) number }
     {
@@ -41,7 +41,7 @@ impl Node {
 
     // The open call with this number.
     #[tactic(auto, unfolding(crate::specs::rule::Parts::node_state))]
-    fn open_call(&self, number: u32) -> Option<OpenCall>
+    pub(super) fn open_call(&self, number: u32) -> Option<OpenCall>
         ensures value { result ≡ open_call (node_state self.now) number }
         ensures own { IfSome result (IsCallOf (node_state self.now)) }
     {
@@ -50,7 +50,7 @@ impl Node {
 
     // The open call of the process.
     #[tactic(auto, unfolding(crate::specs::rule::Parts::node_state))]
-    fn open_call_of(&self, pid: u16) -> Option<OpenCall>
+    pub(super) fn open_call_of(&self, pid: u16) -> Option<OpenCall>
         ensures value { result ≡ open_call_of (node_state self.now) pid }
         ensures own { IfSome result (IsCallOf (node_state self.now)) }
     {
@@ -58,7 +58,7 @@ impl Node {
     }
 
     // What the node knows of the file.
-    fn file(&self, file: u16) -> &FileRow
+    pub(super) fn file(&self, file: u16) -> &FileRow
         requires { IsNumber (node_state self.now).shape.files file }
         ensures state { state_of result.now ≡ (node_state self.now).files file }
         ensures row { slice_get self.now.files (file - 1) ≡ Some result.now }
@@ -68,7 +68,7 @@ impl Node {
 
     // The number of a file of the shape, as messages have it.
     #[tactic(auto, unfolding(crate::specs::rule::Parts::node_state))]
-    fn file_number(&self, file: u16) -> FileNumber
+    pub(super) fn file_number(&self, file: u16) -> FileNumber
         requires { IsNumber (node_state self.now).shape.files file }
         ensures { result ≡ file }
     {

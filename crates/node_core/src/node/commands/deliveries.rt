@@ -76,7 +76,7 @@ impl Node {
     }
 
     // Plans the step of a message. A message for another incarnation of the node does nothing.
-    pub(super) fn plan_message(
+    pub(crate) fn plan_message(
         &self,
         alloc: Global,
         message: &Message,
