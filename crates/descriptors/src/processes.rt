@@ -1,22 +1,21 @@
 //! The processes of one node, their descriptors, and the calls that change them.
-ghost use Rattle.std.specs.Prelude.{◌≡◌, ◌≢◌, ◌≤◌, ◌<◌, ◌↔◌, true, false, None, Some, Ok, Err, IfOk, IfErr, IfSome, OnOk, OnErr, IsTrue, length, not};
+ghost use Rattle.std.specs.Prelude.{◌≡◌, ◌≢◌, ◌≤◌, ◌<◌, ◌↔◌, true, false, None, Ok, Err, IfOk, IfErr, IfSome, OnOk, OnErr, IsTrue, length};
 ghost use Rattle.model.specs.declared.reply.Reply.TheVariants.{Done, Fd};
 ghost use Rattle.model.specs.rule.Limits.{IsNumber, most_processes, most_descriptors, most_descriptions};
-ghost use Rattle.model.specs.rule.Descriptors.{no_processes, with_process, with_descriptor, has_open, is_open, after_spawn, after_fork, after_open, after_dup};
+ghost use Rattle.model.specs.rule.Descriptors.{no_processes, with_process, has_open, after_spawn, after_fork, after_open, after_dup};
 ghost use Rattle.descriptors.specs.code.Rows.{processes, resolved, Refuses, IsClosed};
-ghost use Rattle.descriptors.specs.code.Edits.{edited, Fits, HasPlace, IsKnown};
 
-use crate::counts::{Counts, release, share};
-use crate::edit::ProcessEdit;
+use crate::counts::{Counts, release};
 use crate::error::{FdError, ProcessError};
 use crate::process_entry::{ProcessEntry, is_of_file};
-use crate::rows::{copy_row, is_idle, is_running, opened_at, refer, reset, same_rows};
+use crate::rows::{is_idle, is_running, opened_at, reset, same_rows};
 use model::access::Access;
 use model::limits::{MOST_DESCRIPTORS, MOST_PROCESSES};
 use model::opened::Opened;
 use std::alloc::{AllocError, Global};
 use std::marker::Model;
 
+mod changes;
 mod plans;
 
 // The number of the last place, where there were `places` of them and the process needs one more:
@@ -145,31 +144,6 @@ impl Processes {
         Ok(())
     }
 
-    // Sets what the descriptor, which is free, refers to.
-    fn refer(&mut self, pid: u16, fd: u8, opened: Opened)
-        requires runs { (processes self.old).runs pid ≡ true }
-        requires fd { fd < most_descriptors }
-        requires number { IsNumber most_descriptions opened.description }
-        requires free { (processes self.old).opened pid fd ≡ None }
-        requires known { IsKnown (processes self.old) opened.description }
-        ensures { processes self.new ≡ with_descriptor (processes self.old) pid fd (Some opened) }
-    {
-        self.counts.raise(opened.description);
-        refer(&mut self.rows, pid as usize, fd, Some(opened));
-    }
-
-    // Frees the descriptor. The result is whether no descriptor refers to its description any more.
-    fn free(&mut self, pid: u16, fd: u8, opened: Opened) -> bool
-        requires was { resolved (processes self.old) pid fd ≡ Ok opened }
-        requires fd { fd < most_descriptors }
-        requires number { IsNumber most_descriptions opened.description }
-        ensures closed { processes self.new ≡ with_descriptor (processes self.old) pid fd None }
-        ensures gone { result ≡ not (is_open (with_descriptor (processes self.old) pid fd None) opened.description) }
-    {
-        refer(&mut self.rows, pid as usize, fd, None);
-        self.counts.lower(opened.description)
-    }
-
     /// Opens the file for the process: the lowest free descriptor, which is the result, gets to
     /// refer to a new description of the file, which takes the lowest number that no open
     /// description of the node has (POSIX.1-2017 `open()`). Takes no memory.
@@ -202,57 +176,6 @@ impl Processes {
         let (edit, made) = self.plan_dup(pid, fd)?;
         self.apply(edit);
         Ok(made)
-    }
-
-    // Takes over `more`, the same processes with more places, if there are any.
-    fn take_place(&mut self, pid: u16, more: Option<Processes>)
-        requires { HasPlace self.old pid more }
-        ensures place { pid < length self.new }
-        ensures same { processes self.new ≡ processes self.old }
-    {
-        if let Some(more) = more {
-            *self = more;
-        }
-    }
-
-    // Begins the child, which doesn't run and has a place, with the descriptors of the process.
-    fn copy_to(&mut self, pid: u16, child: u16)
-        requires runs { (processes self.old).runs pid ≡ true }
-        requires idle { (processes self.old).runs child ≡ false }
-        requires number { IsNumber most_processes child }
-        requires place { child < length self.old }
-        ensures { processes self.new ≡ with_process (processes self.old) child true ((processes self.old).opened pid) }
-    {
-        share(&mut self.counts, &self.rows, pid as usize);
-        copy_row(&mut self.rows, pid as usize, child as usize);
-    }
-
-    // Begins the process, which doesn't run and has a place.
-    fn begin(&mut self, pid: u16)
-        requires idle { (processes self.old).runs pid ≡ false }
-        requires number { IsNumber most_processes pid }
-        requires place { pid < length self.old }
-        ensures { processes self.new ≡ with_process (processes self.old) pid true (λ fd. None) }
-    {
-        reset(&mut self.rows, pid as usize, true);
-    }
-
-    /// Makes a planned change. Takes no memory.
-    pub fn apply(&mut self, edit: ProcessEdit)
-        requires { Fits self.old edit }
-        ensures { processes self.new ≡ edited (processes self.old) edit }
-    {
-        match edit {
-            ProcessEdit::Begins { pid, more } => {
-                self.take_place(pid, more);
-                self.begin(pid);
-            }
-            ProcessEdit::Forks { pid, child, more } => {
-                self.take_place(child, more);
-                self.copy_to(pid, child);
-            }
-            ProcessEdit::Opens { pid, fd, opened } => self.refer(pid, fd, opened),
-        }
     }
 
     /// Closes the descriptor. The result is whether its description is closed with it: no
