@@ -17,7 +17,7 @@ impl<W: Weather> Worker<W> {
     }
 
     // Ends each open call, where the refusal says that no step of the seat is taken any more.
-    fn end_at<R: Wait>(&mut self, rt: &R, alloc: Global, refusal: CallError) {
+    pub(super) fn end_at<R: Wait>(&mut self, rt: &R, alloc: Global, refusal: CallError) {
         match refusal {
             CallError::Fenced => self.kill_all(rt, alloc),
             CallError::JournalFull => self.end_all(rt, alloc, refusal),
