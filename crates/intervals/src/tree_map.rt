@@ -147,6 +147,20 @@ impl<V: Exact> TreeMap<V> {
         self.starts - within + first + next
     }
 
+    /// Whether at most `most` longest runs would begin if each byte of the span had the value, or
+    /// none. Takes no memory. A write makes at most two more begin, so no run is read where the map
+    /// has two fewer than `most`.
+    #[inline]
+    pub fn stays_within(&self, span: Span, value: Option<V>, most: usize) -> bool
+        ensures { result ≡ nat_le (number_of_runs V.PartialEq.eq (put (value_at self.now) span value)) most }
+    {
+        let _ = &span.lo; // tells the proof that the span has a byte
+        if self.starts + 2 <= most {
+            return true;
+        }
+        self.starts_with(span, value) <= most
+    }
+
     // The last run that begins below the byte.
     fn previous(&self, byte: u64) -> Option<ByteRun<V>>
         ensures { MatchOption result (NoneBelow (value_at self.now) byte) (IsPrevious (value_at self.now) byte) }
