@@ -19,9 +19,10 @@ use std::marker::Model;
 const MANY: usize = 1024;
 
 /// A map from bytes to values, as a row of sorted vectors of longest runs, of 64 runs at most if
-/// memory allows. A look-up halves the row, and then one vector, until it is at the byte. A write
-/// finds both ends of its span in the same way and moves only the runs behind it in its own vector.
-/// A vector with more than 64 runs is cut in two if the planned write holds memory for that.
+/// memory allows. A look-up halves the row, and then one vector, until it is at the byte, unless
+/// that is at an end of them. A write finds both ends of its span in the same way and moves only the
+/// runs behind it in its own vector. A vector with more than 64 runs is cut in two if the planned
+/// write holds memory for that.
 #[derive(Drop)]
 pub struct TreeMap<V> {
     row: Row<V>,
