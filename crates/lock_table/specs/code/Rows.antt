@@ -38,9 +38,13 @@ pub record IsSameTable (a b : TableParts) : Type 0 where
 abbrev pub mark_of : ℕ → Owner → ℕ
 mark_of file owner = file * 256 + flag_of owner
 
+-- how a row stands to a mark and an owner: by mark, then by owner
+abbrev pub mark_cmp : OwnerLocks → ℕ → Owner → Ordering
+mark_cmp r mark owner = ordering_then (nat_cmp (mark_of r.file r.owner) mark) (owner_cmp r.owner owner)
+
 -- how a row stands to the place of an owner in a file: by file, then by flag, then by owner
 abbrev pub row_cmp : OwnerLocks → ℕ → Owner → Ordering
-row_cmp r file owner = ordering_then (nat_cmp (mark_of r.file r.owner) (mark_of file owner)) (owner_cmp r.owner owner)
+row_cmp r file owner = mark_cmp r (mark_of file owner) owner
 
 -- the bytes that the spans of an owner in a file hold; none if it has no spans there
 abbrev pub bytes_in : Option (Bor (List (ByteRun Mode))) → ℕ → Option Mode
