@@ -216,6 +216,24 @@ impl<V: Exact> Row<V> {
         }
     }
 
+    // The place that `place` gives, where `from` is the one of a lower byte. If the part above that
+    // one begins above the byte, it is the same, and nothing is halved.
+    #[inline(always)]
+    pub(crate) fn place_from(&self, from: usize, byte: u64) -> usize
+        requires within { from ≤ vec_len self.now.rest }
+        requires ended { EndsBelow (runs_below self.now from) byte }
+        requires runs { AreRuns (row_runs self.now) }
+        requires some { AreSome self.now.rest.items }
+        ensures within { result ≤ vec_len self.now.rest }
+        ensures ended { EndsBelow (runs_below self.now result) byte }
+        ensures above { BeginAbove (runs_above self.now result) byte }
+    {
+        match self.above(from).split_first() {
+            Some((part, _)) if part.first() <= byte => self.place(byte),
+            _ => from,
+        }
+    }
+
     // The runs of the part at place `at`.
     #[inline(always)]
     pub(crate) fn part(&self, at: usize) -> &[ByteRun<V>]
