@@ -47,7 +47,7 @@ pub(crate) fn split_before<V>(runs: &[ByteRun<V>], byte: u64) -> (&[ByteRun<V>],
 }
 
 // The last run that begins at the byte or below it. Found by halving.
-pub(crate) fn last_to<V: Exact>(runs: &[ByteRun<V>], byte: u64) -> Option<ByteRun<V>>
+fn last_by_halves<V: Exact>(runs: &[ByteRun<V>], byte: u64) -> Option<ByteRun<V>>
     requires { AreRuns runs.now }
     ensures { MatchOption result (BeginAbove runs.now byte) (IsLastTo runs.now byte) }
 {
@@ -55,6 +55,22 @@ pub(crate) fn last_to<V: Exact>(runs: &[ByteRun<V>], byte: u64) -> Option<ByteRu
     match below.split_last() {
         Some((run, _)) => Some(*run),
         None => None,
+    }
+}
+
+// The last run that begins at the byte or below it. Found by halving, unless it is the last run, or
+// none does.
+pub(crate) fn last_to<V: Exact>(runs: &[ByteRun<V>], byte: u64) -> Option<ByteRun<V>>
+    requires { AreRuns runs.now }
+    ensures { MatchOption result (BeginAbove runs.now byte) (IsLastTo runs.now byte) }
+{
+    match runs.split_first() {
+        Some((run, _)) if run.lo <= byte => {}
+        _ => return None,
+    }
+    match runs.split_last() {
+        Some((run, _)) if run.lo <= byte => Some(*run),
+        _ => last_by_halves(runs, byte),
     }
 }
 
