@@ -19,9 +19,10 @@ use std::marker::Model;
 const MANY: usize = 1024;
 
 /// A map from bytes to values, as a row of sorted vectors of longest runs, of 64 runs at most if
-/// memory allows. A look-up halves the row, and then one vector, until it is at the byte. A write
-/// finds both ends of its span in the same way and moves only the runs behind it in its own vector.
-/// A vector with more than 64 runs is cut in two if the planned write holds memory for that.
+/// memory allows. A look-up halves the row, and then one vector, until it is at the byte, unless
+/// that is at an end of them. A write finds both ends of its span in the same way and moves only the
+/// runs behind it in its own vector. A vector with more than 64 runs is cut in two if the planned
+/// write holds memory for that.
 #[derive(Drop)]
 pub struct TreeMap<V> {
     row: Row<V>,
@@ -145,6 +146,20 @@ impl<V: Exact> TreeMap<V> {
         let first = begin_after(self.before(span.lo), value);
         let next = begin_after(value, self.get(span.hi + 1));
         self.starts - within + first + next
+    }
+
+    /// Whether at most `most` longest runs would begin if each byte of the span had the value, or
+    /// none. Takes no memory. A write makes at most two more begin, so no run is read where the map
+    /// has two fewer than `most`.
+    #[inline]
+    pub fn stays_within(&self, span: Span, value: Option<V>, most: usize) -> bool
+        ensures { result ≡ nat_le (number_of_runs V.PartialEq.eq (put (value_at self.now) span value)) most }
+    {
+        let _ = &span.lo; // tells the proof that the span has a byte
+        if self.starts + 2 <= most {
+            return true;
+        }
+        self.starts_with(span, value) <= most
     }
 
     // The last run that begins below the byte.

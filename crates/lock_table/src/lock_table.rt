@@ -12,6 +12,7 @@ ghost use Rattle.lock_table.specs.code.Pages.{HasFlag};
 use crate::error::LockError;
 use crate::flag_set::FlagSet;
 use crate::owner_locks::OwnerLocks;
+use crate::owner_set::mark_of;
 use crate::owner_spans::OwnerSpans;
 use crate::page_index::PageIndex;
 use intervals::span::Span;
@@ -59,7 +60,8 @@ fn position(rows: &[OwnerLocks], file: u16, owner: Owner) -> Result<usize, usize
     requires { AreRows rows.now }
     ensures { MatchResult result (λ i. IsRowAt rows.now i file owner) (λ i. IsGap rows.now i file owner) }
 {
-    rows.binary_search_by(|row| row.cmp_place(file, owner))
+    let mark = mark_of(file, owner);
+    rows.binary_search_by(|row| row.cmp_place(mark, owner))
 }
 
 // The rows of a file.
