@@ -2,8 +2,8 @@
 ghost use Rattle.std.specs.Prelude.{◌≡◌, ◌≢◌, Ok, Err, IfOk, IfErr};
 ghost use Rattle.messages.specs.declared.refusal.Refused.{Refused};
 ghost use Rattle.messages.specs.declared.refusal.Refused.TheVariants.{NoMemory, Spent};
-ghost use Rattle.messages.specs.declared.event.Event.{TheVariants as event};
-ghost use Rattle.messages.specs.declared.event.MemberEvent.{TheVariants as change};
+ghost use Rattle.messages.specs.declared.event.Event.TheVariants as event;
+ghost use Rattle.messages.specs.declared.event.MemberEvent.TheVariants as change;
 ghost use Rattle.seats.specs.declared.order.Order.TheVariants.{Happens, Tick};
 ghost use Rattle.seats.specs.rule.ServerSeats.{begun_at, server_member_rule, server_told};
 ghost use Rattle.seats.specs.rule.Parts.{server_seat};
