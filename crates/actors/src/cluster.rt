@@ -31,7 +31,7 @@ use std::thread::Threads;
 use std::time::Clock;
 use trail::name::Name;
 
-mod members;
+mod failures;
 
 /// A cluster that runs on threads, with the gate that is told of the steps that clients make themselves. Where
 /// clients may make none, because the actors' gate isn't open, it has no desks.
