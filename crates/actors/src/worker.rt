@@ -1,37 +1,36 @@
 //! The worker of an actor: the thread that takes its letters and makes its steps.
-ghost use Rattle.std.specs.Prelude.{◌<◌, vec_len, OnOk};
-ghost use Rattle.std.specs.Vec.{vec_capacity};
+ghost use Rattle.std.specs.Prelude.{◌<◌};
 ghost use Rattle.book.specs.rule.Commits.{Names, IsStepFrom};
 
 use crate::call_error::CallError;
 use crate::commits::commit;
 use crate::desk::Desk;
 use crate::gate::Gate;
-use crate::letter::{Letter, Question};
+use crate::letter::Letter;
 use crate::locks::lock;
 use crate::outgoing::Outgoing;
 use crate::rebuilt::Rebuilt;
 use crate::return_paths::ReturnPaths;
 use crate::shared::Shared;
-use crate::unanswered_calls::{UnansweredCall, UnansweredCalls, may_release};
+use crate::unanswered_calls::UnansweredCalls;
 use crate::weather::Weather;
 use book::mark::Mark;
 use book::prepared::Prepared;
-use book::receipt::Receipt;
 use book::seat::Seat;
 use book::stamp::Stamp;
 use crossbeam_channel::{Receiver, RecvTimeoutError};
 use distances::pace::Pace;
 use messages::actor::Actor;
-use messages::event::{Event, NodeInput, ServerInput};
-use messages::refusal::StepError;
-use model::op::Op;
-use model::process::Process;
+use messages::event::{Event, ServerInput};
 use std::alloc::Global;
 use std::sync::Wait;
 use std::sync::atomic::Ordering;
 use std::time::{Clock, Duration};
 use trail::name::Name;
+
+mod endings;
+mod questions;
+mod tries;
 
 // The longest sleep of a worker, in milliseconds. A letter wakes it; but where memory is refused, the letter that
 // tells it to end may not come.
@@ -198,88 +197,6 @@ impl<W: Weather> Worker<W> {
         }
     }
 
-    // Whether the node, in that incarnation, may take a call of the process. If it may, there is room for the call.
-    fn admit(&mut self, process: Process, incarnation: u16) -> Result<(), CallError>
-        ensures { OnOk result (vec_len self.new.waiting.calls < vec_capacity self.new.waiting.calls) }
-    {
-        if process.incarnation != incarnation {
-            return Err(CallError::Fenced);
-        }
-        if let Some(why) = self.over {
-            return Err(why);
-        }
-        if self.waiting.reserve().is_err() {
-            return Err(CallError::NoMemory);
-        }
-        Ok(())
-    }
-
-    // Takes the question of a client: makes its call.
-    fn take_question<J: Name, G: Gate, R: Wait>(
-        &mut self,
-        rt: &R,
-        shared: &Shared<'_, J, G>,
-        seat: &mut Seat<J>,
-        question: Question,
-    ) {
-        let Question {
-            process,
-            op,
-            seen,
-            back,
-        } = question;
-        if !self.paths.learn(rt, process, back) {
-            return;
-        }
-        match self.begin(rt, shared, seat, process, op, seen.as_ref()) {
-            Ok(stamp) => {
-                self.open(rt, process, stamp);
-                if may_release(&op) {
-                    self.retry_all(rt, shared, seat, process.node, Cause::Release);
-                }
-            }
-            Err(why) => self.paths.answer(rt, process, Err(why)),
-        }
-    }
-
-    // Makes the call of the process, for which there is room, and sends the messages of the step.
-    fn begin<J: Name, G: Gate, R: Wait>(
-        &mut self,
-        rt: &R,
-        shared: &Shared<'_, J, G>,
-        seat: &mut Seat<J>,
-        process: Process,
-        op: Op,
-        seen: Option<&Mark>,
-    ) -> Result<Stamp, CallError>
-        ensures { OnOk result (vec_len self.new.waiting.calls < vec_capacity self.new.waiting.calls) }
-    {
-        self.admit(process, seat.incarnation())?;
-        let call = NodeInput::Call {
-            pid: process.pid,
-            op,
-        };
-        let event = Event::AtNode(process.node, call);
-        let stamp = commit_step(rt, shared, seat, event, seen)?;
-        self.outgoing.send_all(rt, shared, &stamp);
-        Ok(stamp)
-    }
-
-    // Notes the call of this step of the process: it was answered, or is open from here on.
-    fn open<R: Wait>(&mut self, rt: &R, process: Process, stamp: Stamp)
-        requires { vec_len self.old.waiting.calls < vec_capacity self.old.waiting.calls }
-    {
-        // A process that has an open call can only exit, which ends that call without a reply.
-        if let Some(ended) = self.waiting.take_of(process.pid) {
-            let killed = Err(ended.killed());
-            self.paths.answer(rt, ended.process(), killed);
-        }
-        match Receipt::of(&stamp, &stamp) {
-            Some(receipt) => self.paths.answer(rt, process, Ok(receipt)),
-            None => self.waiting.add(UnansweredCall::new(process, stamp)),
-        }
-    }
-
     // Makes the token server learn of a declaration. If memory for it is refused, the letter comes again.
     fn learn<J: Name, G: Gate, R: Wait>(
         &mut self,
@@ -301,114 +218,6 @@ impl<W: Weather> Worker<W> {
         }
     }
 
-    // Does what is due at a tick: messages that were held back go, a node tries open calls again, and a token server
-    // sends again what has no answer.
-    fn take_tick<J: Name, G: Gate, R: Wait>(
-        &mut self,
-        rt: &R,
-        shared: &Shared<'_, J, G>,
-        seat: &mut Seat<J>,
-    ) {
-        self.has_tick = true;
-        self.outgoing.pass_tick(rt, shared);
-        match self.actor {
-            Actor::Node(node) => self.retry_all(rt, shared, seat, node, Cause::Tick),
-            Actor::Server(file) => self.resend(rt, shared, seat, file),
-        }
-    }
-
-    // Tries open calls again, in the order in which the node took them.
-    fn retry_all<J: Name, G: Gate, R: Wait>(
-        &mut self,
-        rt: &R,
-        shared: &Shared<'_, J, G>,
-        seat: &mut Seat<J>,
-        node: u8,
-        cause: Cause,
-    ) {
-        let mut index = 0;
-        for _ in 0..self.waiting.len() {
-            let Some(pid) = self.waiting.pid_at(index) else {
-                break;
-            };
-            let due = match cause {
-                Cause::Tick => self.waiting.pass_tick(index),
-                Cause::Release => self.waiting.is_blocked_here(index),
-            };
-            if due {
-                self.retry(rt, shared, seat, node, pid);
-            }
-            if self.waiting.pid_at(index) == Some(pid) {
-                index = index.saturating_add(1);
-            }
-        }
-    }
-
-    // Tries an open call again. Where no step of this incarnation is taken any more, all open calls end.
-    fn retry<J: Name, G: Gate, R: Wait>(
-        &mut self,
-        rt: &R,
-        shared: &Shared<'_, J, G>,
-        seat: &mut Seat<J>,
-        node: u8,
-        pid: u16,
-    ) {
-        let event = Event::AtNode(node, NodeInput::Retry { pid });
-        match self.step(rt, shared, seat, event) {
-            Ok(()) => {}
-            Err(CallError::NoMemory) => self.waiting.wait_anew(pid),
-            Err(why) => self.end_at(rt, shared.alloc, why),
-        }
-    }
-
-    // Sends again what has no answer, if there is any and it is time. (A token server's.)
-    fn resend<J: Name, G: Gate, R: Wait>(
-        &mut self,
-        rt: &R,
-        shared: &Shared<'_, J, G>,
-        seat: &mut Seat<J>,
-        file: u16,
-    ) {
-        let is_due = self.pace.is_due();
-        self.pace = self.pace.passed();
-        if !is_due {
-            return;
-        }
-        match seat.prepare(shared.alloc, Event::AtServer(file, ServerInput::Resend)) {
-            Ok(prepared) => self.send_again(rt, shared, seat, prepared),
-            Err(StepError::NoMemory) => self.lack_memory(shared),
-            Err(_) => {}
-        }
-    }
-
-    // Sends the messages of a prepared resend, if it has any.
-    fn send_again<J: Name, G: Gate, R: Wait>(
-        &mut self,
-        rt: &R,
-        shared: &Shared<'_, J, G>,
-        seat: &mut Seat<J>,
-        prepared: Prepared,
-    )
-        requires { Names prepared seat.old → IsStepFrom seat.old prepared }
-    {
-        if prepared.outcome().sends.is_empty() {
-            self.pace = Pace::at_rest();
-            return;
-        }
-        match commit_to(rt, shared, seat, prepared, None) {
-            Ok(stamp) => self.outgoing.send_all(rt, shared, &stamp),
-            Err(CallError::Fenced) => self.pace = Pace::at_rest(),
-            Err(CallError::NoMemory) => self.lack_memory(shared),
-            Err(_) => {}
-        }
-    }
-
-    // Notes that memory was refused as the token server would have sent again.
-    fn lack_memory<J: Name, G>(&mut self, shared: &Shared<'_, J, G>) {
-        shared.halt.note_refused();
-        self.pace = Pace::begun();
-    }
-
     // Makes a step of the actor: sends its messages, and answers the call that it answers.
     fn step<J: Name, G: Gate, R: Wait>(
         &mut self,
@@ -425,45 +234,6 @@ impl<W: Weather> Worker<W> {
             Actor::Server(_) => self.pace = self.pace.noted(stamp.event()),
         }
         Ok(())
-    }
-
-    // Answers the call that the step answers with its receipt, if it answers one.
-    fn answer_by<R: Wait>(&mut self, rt: &R, stamp: &Stamp) {
-        if let Some((call, receipt)) = self.waiting.take_answered(stamp) {
-            self.paths.answer(rt, call.process(), Ok(receipt));
-        }
-    }
-
-    // Ends each open call, where the refusal says that no step of the seat is taken any more.
-    fn end_at<R: Wait>(&mut self, rt: &R, alloc: Global, refusal: CallError) {
-        match refusal {
-            CallError::Fenced => self.kill_all(rt, alloc),
-            CallError::JournalFull => self.end_all(rt, alloc, refusal),
-            _ => return,
-        }
-        self.over = Some(refusal);
-    }
-
-    // Ends each open call without a reply: its node was declared failed.
-    fn kill_all<R: Wait>(&mut self, rt: &R, alloc: Global) {
-        for call in self.waiting.take_all(alloc) {
-            self.paths.answer(rt, call.process(), Err(call.killed()));
-        }
-    }
-
-    // Leaves each open call without an answer: the worker ends.
-    fn leave_all<R: Wait>(&mut self, rt: &R, alloc: Global) {
-        for call in self.waiting.take_all(alloc) {
-            let unanswered = Err(call.unanswered());
-            self.paths.answer(rt, call.process(), unanswered);
-        }
-    }
-
-    // Ends each open call without a reply, for this reason.
-    fn end_all<R: Wait>(&mut self, rt: &R, alloc: Global, why: CallError) {
-        for call in self.waiting.take_all(alloc) {
-            self.paths.answer(rt, call.process(), Err(why));
-        }
     }
 }
 

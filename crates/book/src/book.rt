@@ -1,10 +1,9 @@
 //! The book: the journal that the actors of a cluster share.
-ghost use Rattle.std.specs.Prelude.{◌≡◌, ◌≢◌, ◌+◌, ◌-◌, ◌<◌, ◌≤◌, ◌++◌, ◌∷◌, [], ℕ, Ok, Err, Some, true, length, slice_get, IfOk, IfErr, IfSome, OnOk, OnErr, MatchResult, MatchBool, option_copied};
+ghost use Rattle.std.specs.Prelude.{◌≡◌, ◌≢◌, ◌+◌, ◌-◌, ◌<◌, ◌≤◌, [], ℕ, Ok, Err, Some, true, length, slice_get, IfOk, IfErr, IfSome, OnOk, OnErr, MatchResult, MatchBool, option_copied};
 ghost use Rattle.messages.specs.declared.event.Event.TheVariants.{Member};
 ghost use Rattle.messages.specs.declared.event.MemberEvent.TheVariants.{Declare, Restart, FailServer, StartServer};
 ghost use Rattle.messages.specs.declared.refusal.Refused.{Refused};
 ghost use Rattle.messages.specs.declared.entry.Entry.{Entry};
-ghost use Rattle.messages.specs.rule.Shapes.{ShapeFields};
 ghost use Rattle.cluster_core.specs.rule.World.{WorldState, first_world, journal_limit};
 ghost use Rattle.cluster_core.specs.rule.Next.{next, kept_next};
 ghost use Rattle.cluster_core.specs.rule.Parts.{world_state};
@@ -13,14 +12,12 @@ ghost use Rattle.cluster_core.specs.rule.Journals.{RunFields, GoesOn, journal_of
 ghost use Rattle.cluster_core.specs.rule.Histories.{HasOneHistory};
 ghost use Rattle.cluster_core.specs.rule.Safe.{IsSafe};
 ghost use Rattle.book.specs.rule.Fields.{SeatFields, StampFields};
-ghost use Rattle.book.specs.rule.States.{actor_of, HasState};
 ghost use Rattle.book.specs.code.Receipts.{Holds, IsStampOf, IsReceiptOf};
-ghost use Rattle.book.specs.rule.Commits.{Names, IsStepFrom, IsSeatOf, Accepts, Refuses, Commits, seen_at};
+ghost use Rattle.book.specs.rule.Commits.{Names, IsStepFrom, IsSeatOf, Refuses, Commits, seen_at};
 ghost use Rattle.book.specs.code.Turns.{Declared, Restarted, Failed, Started};
-ghost use Rattle.book.specs.code.Seats.{IsFirstSeat, AreFirst};
-ghost use Rattle.model.specs.rule.Limits.{IsNumber};
-ghost use Rattle.messages.specs.declared.actor.Actor.TheVariants.{Node as ANode, Server as AServer};
+ghost use Rattle.book.specs.code.Seats.{IsFirstSeat};
 
+use crate::book::beginnings::{node_seats, push_servers};
 use crate::commit_error::CommitError;
 use crate::holds::holds;
 use crate::last_spots::LastSpots;
@@ -47,6 +44,8 @@ use std::alloc::{AllocError, Global};
 use std::marker::Model;
 use token_server::server::Server;
 use trail::name::Name;
+
+mod beginnings;
 
 /// The journal that the actors of a cluster share, which is always a run, and a copy of each actor's state after it.
 /// The type is generic in the name of the book's trail, so that a spot that a seat keeps is known to be of the same
@@ -84,57 +83,6 @@ fn take_next(run: &mut Run, alloc: Global, event: Event) -> Result<(), AllocErro
         Refused::NoMemory => Err(AllocError),
         _ => unreachable!(),
     }
-}
-
-// The state of a node of a cluster that begins.
-fn first_node_state(alloc: Global, shape: Shape, number: u8) -> Result<State, AllocError>
-    requires { IsNumber shape.nodes number }
-    ensures { IfOk result (λ state. HasState (first_world shape) state × (actor_of state ≡ ANode number)) }
-{
-    let node = Node::new(alloc, shape, number, 1)?;
-    let node = Box::new(alloc, node)?;
-    Ok(State::OfNode { number, node })
-}
-
-// The state of a token server of a cluster that begins.
-fn first_server_state(alloc: Global, shape: Shape, file: u16) -> Result<State, AllocError>
-    requires { IsNumber shape.files file }
-    ensures { IfOk result (λ state. HasState (first_world shape) state × (actor_of state ≡ AServer file)) }
-{
-    let server = Server::new(alloc, shape, file)?;
-    let server = Box::new(alloc, server)?;
-    Ok(State::OfServer { file, server })
-}
-
-// The first seats of the nodes.
-fn node_seats<J: Name>(alloc: Global, shape: Shape) -> Result<Vec<Seat<J>>, AllocError>
-    ensures seats { IfOk result (λ seats. AreFirst shape seats.items) }
-    ensures count { IfOk result (λ seats. length seats.items ≡ shape.nodes) }
-{
-    let mut seats = Vec::new(alloc);
-    for index in 0..shape.nodes() {
-        let state = first_node_state(alloc, shape, index + 1)?;
-        seats.push(Seat::new(state))?;
-    }
-    Ok(seats)
-}
-
-// Appends the first seats of the token servers to those of the nodes.
-fn push_servers<J: Name>(
-    alloc: Global,
-    shape: Shape,
-    seats: &mut Vec<Seat<J>>,
-) -> Result<(), AllocError>
-    requires first { AreFirst shape seats.old.items }
-    requires nodes { length seats.old.items ≡ shape.nodes }
-    ensures seats { OnOk result (AreFirst shape seats.new.items) }
-    ensures count { OnOk result (length seats.new.items ≡ shape.nodes + shape.files) }
-{
-    for index in 0..shape.files() {
-        let state = first_server_state(alloc, shape, index + 1)?;
-        seats.push(Seat::new(state))?;
-    }
-    Ok(())
 }
 
 impl<J: Name> Book<J> {

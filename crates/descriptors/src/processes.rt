@@ -1,24 +1,22 @@
 //! The processes of one node, their descriptors, and the calls that change them.
-ghost use Rattle.std.specs.Prelude.{◌≡◌, ◌≢◌, ◌≤◌, ◌<◌, ◌↔◌, ℕ, true, false, None, Some, Ok, Err, IfOk, IfErr, IfSome, OnOk, OnErr, IsTrue, MatchOption, is_none, length, not};
+ghost use Rattle.std.specs.Prelude.{◌≡◌, ◌≢◌, ◌≤◌, ◌<◌, ◌↔◌, true, false, None, Ok, Err, IfOk, IfErr, IfSome, OnOk, OnErr, IsTrue, length};
 ghost use Rattle.model.specs.declared.reply.Reply.TheVariants.{Done, Fd};
 ghost use Rattle.model.specs.rule.Limits.{IsNumber, most_processes, most_descriptors, most_descriptions};
-ghost use Rattle.model.specs.rule.Descriptors.{no_processes, with_process, with_descriptor, lowest_fd, lowest_description, has_open, is_open, after_spawn, after_fork, after_open, after_dup, after};
+ghost use Rattle.model.specs.rule.Descriptors.{no_processes, with_process, has_open, after_spawn, after_fork, after_open, after_dup};
 ghost use Rattle.descriptors.specs.code.Rows.{processes, resolved, Refuses, IsClosed};
-ghost use Rattle.descriptors.specs.code.Edits.{edited, Fits, HasPlace, IsKnown};
-ghost use Rattle.descriptors.specs.code.Calls.{begins, CanBegin};
 
-use crate::counts::{Counts, release, share};
-use crate::edit::ProcessEdit;
+use crate::counts::{Counts, release};
 use crate::error::{FdError, ProcessError};
 use crate::process_entry::{ProcessEntry, is_of_file};
-use crate::rows::{copy_row, grown, is_idle, is_running, opened_at, refer, reset, same_rows};
+use crate::rows::{is_idle, is_running, opened_at, reset, same_rows};
 use model::access::Access;
 use model::limits::{MOST_DESCRIPTORS, MOST_PROCESSES};
-use model::op::ProcessCall;
 use model::opened::Opened;
-use model::reply::Reply;
 use std::alloc::{AllocError, Global};
 use std::marker::Model;
+
+mod changes;
+mod plans;
 
 // The number of the last place, where there were `places` of them and the process needs one more:
 // half as many again as there were, so that places are seldom added, but none past the last process.
@@ -111,33 +109,6 @@ impl Processes {
         false
     }
 
-    // The same processes with places up to the number `pid`, if there is no place for it yet.
-    fn with_place(&self, pid: u16) -> Result<Option<Processes>, AllocError>
-        ensures { IfOk result (HasPlace self.now pid) }
-    {
-        if (pid as usize) < self.rows.len() {
-            return Ok(None);
-        }
-        let last = last_place(self.rows.len(), pid);
-        let rows = grown(&self.rows, last)?;
-        let counts = self.counts.grown(64 * (last + 1))?;
-        Ok(Some(Processes { rows, counts }))
-    }
-
-    // The change that `spawn` would make.
-    fn plan_spawn(&self, pid: u16) -> Result<ProcessEdit, ProcessError>
-        requires { IsNumber most_processes pid }
-        ensures ok { IfOk result (λ edit. after_spawn (processes self.now) pid ≡ Ok (edited (processes self.now) edit, Done)) }
-        ensures err { IfErr result (λ error. Refuses error (after_spawn (processes self.now) pid)) }
-        ensures fits { IfOk result (λ edit. Fits self.now edit) }
-    {
-        if self.is_running(pid) {
-            return Err(ProcessError::Exists);
-        }
-        let more = self.with_place(pid).map_err(|_| ProcessError::NoMemory)?;
-        Ok(ProcessEdit::Begins { pid, more })
-    }
-
     /// Begins the process, without descriptors. Its number is from 1 to 256, as that of each
     /// process.
     ///
@@ -153,23 +124,6 @@ impl Processes {
         let edit = self.plan_spawn(pid)?;
         self.apply(edit);
         Ok(())
-    }
-
-    // The change that `fork` would make.
-    fn plan_fork(&self, pid: u16, child: u16) -> Result<ProcessEdit, ProcessError>
-        requires { IsNumber most_processes child }
-        ensures ok { IfOk result (λ edit. after_fork (processes self.now) pid child ≡ Ok (edited (processes self.now) edit, Done)) }
-        ensures err { IfErr result (λ error. Refuses error (after_fork (processes self.now) pid child)) }
-        ensures fits { IfOk result (λ edit. Fits self.now edit) }
-    {
-        if !self.is_running(pid) {
-            return Err(ProcessError::NoProcess);
-        }
-        if self.is_running(child) {
-            return Err(ProcessError::Exists);
-        }
-        let more = self.with_place(child).map_err(|_| ProcessError::NoMemory)?;
-        Ok(ProcessEdit::Forks { pid, child, more })
     }
 
     /// Begins the child with the descriptors of the process: each refers to the same description in
@@ -190,84 +144,6 @@ impl Processes {
         Ok(())
     }
 
-    fn is_free(&self, pid: u16, fd: u8) -> bool
-        ensures { result ≡ is_none ((processes self.now).opened pid fd) }
-    {
-        self.opened(pid, fd).is_none()
-    }
-
-    // The lowest free descriptor of the process, if one is free.
-    fn lowest_fd(&self, pid: u16) -> Option<u8>
-        ensures { MatchOption result (lowest_fd (processes self.now) pid ≡ most_descriptors) (λ fd. (fd < most_descriptors) × (fd ≡ lowest_fd (processes self.now) pid)) }
-    {
-        for fd in 0..MOST_DESCRIPTORS {
-            if self.is_free(pid, fd) {
-                return Some(fd);
-            }
-        }
-        None
-    }
-
-    // Sets what the descriptor, which is free, refers to.
-    fn refer(&mut self, pid: u16, fd: u8, opened: Opened)
-        requires runs { (processes self.old).runs pid ≡ true }
-        requires fd { fd < most_descriptors }
-        requires number { IsNumber most_descriptions opened.description }
-        requires free { (processes self.old).opened pid fd ≡ None }
-        requires known { IsKnown (processes self.old) opened.description }
-        ensures { processes self.new ≡ with_descriptor (processes self.old) pid fd (Some opened) }
-    {
-        self.counts.raise(opened.description);
-        refer(&mut self.rows, pid as usize, fd, Some(opened));
-    }
-
-    // Frees the descriptor. The result is whether no descriptor refers to its description any more.
-    fn free(&mut self, pid: u16, fd: u8, opened: Opened) -> bool
-        requires was { resolved (processes self.old) pid fd ≡ Ok opened }
-        requires fd { fd < most_descriptors }
-        requires number { IsNumber most_descriptions opened.description }
-        ensures closed { processes self.new ≡ with_descriptor (processes self.old) pid fd None }
-        ensures gone { result ≡ not (is_open (with_descriptor (processes self.old) pid fd None) opened.description) }
-    {
-        refer(&mut self.rows, pid as usize, fd, None);
-        self.counts.lower(opened.description)
-    }
-
-    // The lowest number, from 1, that no open description has.
-    fn lowest_description(&self) -> u16
-        ensures { result ≡ lowest_description (processes self.now) }
-    {
-        self.counts.lowest_unused()
-    }
-
-    // The change that `open` would make, with the descriptor that would be opened.
-    fn plan_open(
-        &self,
-        pid: u16,
-        file: u16,
-        access: Access,
-    ) -> Result<(ProcessEdit, u8), ProcessError>
-        ensures ok { IfOk result (λ planned. after_open (processes self.now) pid file access ≡ Ok (edited (processes self.now) planned.0, Fd planned.1)) }
-        ensures err { IfErr result (λ error. Refuses error (after_open (processes self.now) pid file access)) }
-        ensures memory { IfErr result (λ error. error ≢ ProcessError.NoMemory) }
-        ensures fits { IfOk result (λ planned. Fits self.now planned.0) }
-    {
-        let _ = &self.rows; // tells the proof that a running process has a number in range
-        if !self.is_running(pid) {
-            return Err(ProcessError::NoProcess);
-        }
-        let Some(fd) = self.lowest_fd(pid) else {
-            return Err(ProcessError::TooManyFiles);
-        };
-        let description = self.lowest_description();
-        let opened = Opened {
-            file,
-            description,
-            access,
-        };
-        Ok((ProcessEdit::Opens { pid, fd, opened }, fd))
-    }
-
     /// Opens the file for the process: the lowest free descriptor, which is the result, gets to
     /// refer to a new description of the file, which takes the lowest number that no open
     /// description of the node has (POSIX.1-2017 `open()`). Takes no memory.
@@ -286,25 +162,6 @@ impl Processes {
         Ok(fd)
     }
 
-    // The change that `dup` would make, with the descriptor that would be opened.
-    fn plan_dup(&self, pid: u16, fd: u8) -> Result<(ProcessEdit, u8), ProcessError>
-        ensures ok { IfOk result (λ planned. after_dup (processes self.now) pid fd ≡ Ok (edited (processes self.now) planned.0, Fd planned.1)) }
-        ensures err { IfErr result (λ error. (error ≢ ProcessError.NoMemory) × Refuses error (after_dup (processes self.now) pid fd)) }
-        ensures fits { IfOk result (λ planned. Fits self.now planned.0) }
-    {
-        let _ = &self.rows; // tells the proof that a running process has a number in range
-        let found = self.resolve(pid, fd)?;
-        let Some(lowest) = self.lowest_fd(pid) else {
-            return Err(ProcessError::TooManyFiles);
-        };
-        let edit = ProcessEdit::Opens {
-            pid,
-            fd: lowest,
-            opened: found,
-        };
-        Ok((edit, lowest))
-    }
-
     /// Makes one more descriptor: the lowest free one, which is the result, gets to refer to the
     /// description that `fd` refers to (POSIX.1-2017 `dup()`). Takes no memory.
     ///
@@ -319,83 +176,6 @@ impl Processes {
         let (edit, made) = self.plan_dup(pid, fd)?;
         self.apply(edit);
         Ok(made)
-    }
-
-    /// The change that the call of the process would make, and its reply. Takes memory only where a
-    /// process would begin.
-    ///
-    /// # Errors
-    /// The errors of `spawn`, `fork`, `open` or `dup`, whichever the call is.
-    pub fn plan(&self, pid: u16, call: ProcessCall) -> Result<(ProcessEdit, Reply), ProcessError>
-        requires { CanBegin pid call }
-        ensures ok { IfOk result (λ planned. after (processes self.now) pid call ≡ Ok (edited (processes self.now) planned.0, planned.1)) }
-        ensures err { IfErr result (λ error. Refuses error (after (processes self.now) pid call)) }
-        ensures memory { begins call ≡ false → IfErr result (λ error. error ≢ ProcessError.NoMemory) }
-        ensures fits { IfOk result (λ planned. Fits self.now planned.0) }
-    {
-        match call {
-            ProcessCall::Spawn => Ok((self.plan_spawn(pid)?, Reply::Done)),
-            ProcessCall::Fork { child } => Ok((self.plan_fork(pid, child)?, Reply::Done)),
-            ProcessCall::Open { file, access } => {
-                let (edit, fd) = self.plan_open(pid, file, access)?;
-                Ok((edit, Reply::Fd(fd)))
-            }
-            ProcessCall::Dup { fd } => {
-                let (edit, made) = self.plan_dup(pid, fd)?;
-                Ok((edit, Reply::Fd(made)))
-            }
-        }
-    }
-
-    // Takes over `more`, the same processes with more places, if there are any.
-    fn take_place(&mut self, pid: u16, more: Option<Processes>)
-        requires { HasPlace self.old pid more }
-        ensures place { pid < length self.new }
-        ensures same { processes self.new ≡ processes self.old }
-    {
-        if let Some(more) = more {
-            *self = more;
-        }
-    }
-
-    // Begins the child, which doesn't run and has a place, with the descriptors of the process.
-    fn copy_to(&mut self, pid: u16, child: u16)
-        requires runs { (processes self.old).runs pid ≡ true }
-        requires idle { (processes self.old).runs child ≡ false }
-        requires number { IsNumber most_processes child }
-        requires place { child < length self.old }
-        ensures { processes self.new ≡ with_process (processes self.old) child true ((processes self.old).opened pid) }
-    {
-        share(&mut self.counts, &self.rows, pid as usize);
-        copy_row(&mut self.rows, pid as usize, child as usize);
-    }
-
-    // Begins the process, which doesn't run and has a place.
-    fn begin(&mut self, pid: u16)
-        requires idle { (processes self.old).runs pid ≡ false }
-        requires number { IsNumber most_processes pid }
-        requires place { pid < length self.old }
-        ensures { processes self.new ≡ with_process (processes self.old) pid true (λ fd. None) }
-    {
-        reset(&mut self.rows, pid as usize, true);
-    }
-
-    /// Makes a planned change. Takes no memory.
-    pub fn apply(&mut self, edit: ProcessEdit)
-        requires { Fits self.old edit }
-        ensures { processes self.new ≡ edited (processes self.old) edit }
-    {
-        match edit {
-            ProcessEdit::Begins { pid, more } => {
-                self.take_place(pid, more);
-                self.begin(pid);
-            }
-            ProcessEdit::Forks { pid, child, more } => {
-                self.take_place(child, more);
-                self.copy_to(pid, child);
-            }
-            ProcessEdit::Opens { pid, fd, opened } => self.refer(pid, fd, opened),
-        }
     }
 
     /// Closes the descriptor. The result is whether its description is closed with it: no

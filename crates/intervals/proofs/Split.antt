@@ -1,6 +1,7 @@
 -- A list of runs that is split at a byte.
-use Rattle.std.proofs.Common.{◌≡◌, ℕ, zero, suc, ◌<◌, ◌≤◌, length, get_or, take, drop, slice_get, List, [], ◌∷◌, ◌++◌, Option, Some, None, refl, sym, subst, ◌∙◌, inr, arith}
+use Rattle.std.proofs.Common.{◌≡◌, ℕ, zero, suc, ◌-◌, ◌<◌, ◌≤◌, length, get_or, take, drop, slice_get, List, [], ◌∷◌, ◌++◌, Option, Some, None, refl, ap, sym, subst, ◌∙◌, inr, arith}
 use Rattle.std.proofs.lemmas.Bool.Decides.{nat_tests}
+use Rattle.std.proofs.lemmas.List.{get_or_default}
 use Rattle.std.specs.List.Sorted.{IsNonDecreasingBy}
 use Rattle.intervals.specs.declared.byte_run.ByteRun.{ByteRun}
 use Rattle.intervals.specs.rule.Bytes.{Range, IsBarred, IsFirstIn, IsRun, NoneIn}
@@ -26,6 +27,15 @@ pub ended_take : {V : Type 0} (l : List (ByteRun V)) (i n : ℕ) → ((k : ℕ) 
 ended_take l zero n ended = tt
 ended_take [] (suc i) n ended = tt
 ended_take (r ∷ l) (suc i) n ended = (ended 0 r (omega arith), ended_take l i n (λ k d lt. ended (suc k) d (omega arith)))
+
+-- all runs end below byte n where the last one does
+pub ended_last : {V : Type 0} (l : List (ByteRun V)) (r : ByteRun V) (n : ℕ) → AreRuns l → r ≡ get_or l (length l - 1) r → r.hi < n → EndsBelow (take (length l) l) n
+ended_last l r n runs is last =
+    let ended : (k : ℕ) (d : ByteRun _) → k < length l → (get_or l k d).hi < n = λ k d lt.
+    let at : r ≡ get_or l (length l - 1) d = is ∙ get_or_default l (length l - 1) r d (omega arith) in
+    let rise = ends_rise l runs k (length l - 1) d (omega arith) (omega arith) in
+    omega (arith, rise, ap (λ (s : ByteRun _). s.hi) at, last) in
+    ended_take l (length l) n ended
 
 -- the runs from place i on end at byte n or above it
 pub reached_drop : {V : Type 0} (l : List (ByteRun V)) (i n : ℕ) → ((k : ℕ) (d : ByteRun V) → i ≤ k → k < length l → n ≤ (get_or l k d).hi) → EndsFrom (drop i l) n

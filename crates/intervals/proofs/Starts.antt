@@ -45,6 +45,11 @@ begin_below_all (r ∷ rest) n runs ends =
     let lt : r.lo < n = omega (arith, runs.0, ends.0) in
     grind (arith, nat_tests)
 
+-- no more runs begin below n than there are
+pub begin_below_few : {V : Type 0} (l : List (ByteRun V)) (n : ℕ) → begin_below l n ≤ length l
+begin_below_few [] n = omega arith
+begin_below_few (r ∷ rest) n = let more = begin_below_few rest n in grind (arith, nat_tests)
+
 module _ {V : Type 0} (eq : V → V → Bool) (exact : (a b : V) → eq a b ≡ true → a ≡ b) (reflexive : (a : V) → eq a a ≡ true) where
   -- after a byte with another value a run begins as after a byte without one
   begins_other : (v : V) (x : Option V) → x ≢ Some v → begins_after eq (Some v) x ≡ begins_after eq None x

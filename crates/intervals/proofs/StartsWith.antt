@@ -7,7 +7,7 @@ use Rattle.intervals.specs.declared.byte_run.ByteRun.{ByteRun}
 use Rattle.intervals.specs.rule.Bytes.{Range, greatest, put, begins_after, is_start, starts_below, all_bytes, number_of_runs}
 use Rattle.intervals.specs.code.Runs.{value_at, AreRuns, EndsBelow}
 use Rattle.intervals.proofs.Runs.{at-below}
-use Rattle.intervals.proofs.Starts.{begin_below, number_of_runs-length}
+use Rattle.intervals.proofs.Starts.{begin_below, begin_below_few, starts_below_are, number_of_runs-length}
 
 -- a later run begins above the first
 begins_later : {V : Type 0} (r : ByteRun V) (l : List (ByteRun V)) (j : ℕ) (d : ByteRun V) → AreRuns (r ∷ l) → j < length l → r.lo ≤ (get_or l j d).lo
@@ -197,3 +197,14 @@ module _ {V : Type 0} (eq : V → V → Bool) (exact : (a b : V) → eq a b ≡ 
       let more = starts-none (put f s v) all_bytes past in
       let old = starts-none f all_bytes none in
       omega (arith, lows, highs, few, firsts, nexts, all, written, more, old)
+
+  -- a write makes at most two more runs begin
+  pub number-few : (l : List (ByteRun V)) (s : Range) (v : Option V) → AreRuns l → EndsBelow l (greatest + 1) → s.lo ≤ s.hi → s.hi ≤ greatest → number_of_runs eq (put (value_at l) s v) ≤ length l + 2
+  number-few l s v runs ends ordered within =
+      let f : ℕ → Option V = value_at l in
+      let first = begins_after eq (before f s.lo) v in
+      let next = begins_after eq v (f (s.hi + 1)) in
+      let few : starts_below eq f (s.hi + 1 + 1) ≤ length l = rw (starts_below_are eq exact reflexive l (s.hi + 1 + 1) runs) (begin_below_few l (s.hi + 1 + 1)) in
+      let more = starts-more eq reflexive f s.lo (s.hi + 1 + 1) (omega arith) in
+      let all = number-written l s v (starts_below eq f s.lo) (starts_below eq f (s.hi + 1 + 1)) (one first) (one next) runs ends ordered within refl refl few refl refl in
+      omega (arith, all, few, more, one_few first, one_few next)

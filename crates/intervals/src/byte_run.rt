@@ -1,5 +1,5 @@
 //! Runs of bytes that have one value, and searches and writes in sorted vectors of them.
-ghost use Rattle.std.specs.Prelude.{◌≡◌, ◌≤◌, ◌<◌, ◌+◌, ◌++◌, [], take, length, ℕ, if◌then◌else◌, Some, IsTrue, ◌↔◌, MatchOption};
+ghost use Rattle.std.specs.Prelude.{◌≡◌, ◌≤◌, ◌<◌, ◌+◌, ◌++◌, [], take, drop, length, ℕ, if◌then◌else◌, Some, IsTrue, ◌↔◌, MatchOption};
 ghost use Rattle.std.specs.Vec.{vec_len, vec_capacity};
 ghost use Rattle.intervals.specs.rule.Bytes.{greatest, put, begins_after, starts_below, IsBarred};
 ghost use Rattle.intervals.specs.code.Runs.{bytes_of, value_at, IsBarredValue, AreRuns, EndsBelow, EndsFrom, IsLowestFree, IsHighestFree};
@@ -16,7 +16,25 @@ pub struct ByteRun<V> {
     pub value: V,
 }
 
-// The runs that end below the byte, and the other ones. Found by halving.
+// The number of runs that end below the byte. Found by halving, unless all do or none does.
+fn ends_below<V>(runs: &[ByteRun<V>], byte: u64) -> usize
+    requires { AreRuns runs.now }
+    ensures within { result ≤ length runs.now }
+    ensures ended { EndsBelow (take result runs.now) byte }
+    ensures reached { EndsFrom (drop result runs.now) byte }
+{
+    match runs.first() {
+        Some(run) if run.hi < byte => {}
+        _ => return 0,
+    }
+    match runs.last() {
+        Some(run) if run.hi < byte => runs.len(),
+        _ => runs.partition_point(|run| run.hi < byte),
+    }
+}
+
+// The runs that end below the byte, and the other ones.
+#[inline]
 pub(crate) fn split_before<V>(runs: &[ByteRun<V>], byte: u64) -> (&[ByteRun<V>], &[ByteRun<V>])
     requires { AreRuns runs.now }
     ensures whole { runs.now ≡ result.0.now ++ result.1.now }
@@ -25,11 +43,11 @@ pub(crate) fn split_before<V>(runs: &[ByteRun<V>], byte: u64) -> (&[ByteRun<V>],
     ensures ended { EndsBelow result.0.now byte }
     ensures reached { EndsFrom result.1.now byte }
 {
-    runs.split_at(runs.partition_point(|run| run.hi < byte))
+    runs.split_at(ends_below(runs, byte))
 }
 
 // The last run that begins at the byte or below it. Found by halving.
-pub(crate) fn last_to<V: Exact>(runs: &[ByteRun<V>], byte: u64) -> Option<ByteRun<V>>
+fn last_by_halves<V: Exact>(runs: &[ByteRun<V>], byte: u64) -> Option<ByteRun<V>>
     requires { AreRuns runs.now }
     ensures { MatchOption result (BeginAbove runs.now byte) (IsLastTo runs.now byte) }
 {
@@ -37,6 +55,22 @@ pub(crate) fn last_to<V: Exact>(runs: &[ByteRun<V>], byte: u64) -> Option<ByteRu
     match below.split_last() {
         Some((run, _)) => Some(*run),
         None => None,
+    }
+}
+
+// The last run that begins at the byte or below it. Found by halving, unless it is the last run, or
+// none does.
+pub(crate) fn last_to<V: Exact>(runs: &[ByteRun<V>], byte: u64) -> Option<ByteRun<V>>
+    requires { AreRuns runs.now }
+    ensures { MatchOption result (BeginAbove runs.now byte) (IsLastTo runs.now byte) }
+{
+    match runs.split_first() {
+        Some((run, _)) if run.lo <= byte => {}
+        _ => return None,
+    }
+    match runs.split_last() {
+        Some((run, _)) if run.lo <= byte => Some(*run),
+        _ => last_by_halves(runs, byte),
     }
 }
 

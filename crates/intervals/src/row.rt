@@ -32,7 +32,8 @@ pub(crate) struct Spare<V> {
     places: Vec<Part<V>>,
 }
 
-// The number of the parts that begin at the byte or below it. Found by halving.
+// The number of the parts that begin at the byte or below it. Found by halving, unless the last part
+// does.
 #[inline(never)]
 fn begin_to<V: Exact>(parts: &[Part<V>], byte: u64) -> usize
     requires runs { AreRuns (all_runs parts.now) }
@@ -41,7 +42,10 @@ fn begin_to<V: Exact>(parts: &[Part<V>], byte: u64) -> usize
     ensures begins { 0 < result → BeginsTo (all_runs (drop (result - 1) parts.now)) byte }
     ensures above { BeginAbove (all_runs (drop result parts.now)) byte }
 {
-    parts.partition_point(|part| part.first() <= byte)
+    match parts.last() {
+        Some(part) if part.first() <= byte => parts.len(),
+        _ => parts.partition_point(|part| part.first() <= byte),
+    }
 }
 
 // The first run of `runs` and then of `parts`, with the runs and parts behind it.
@@ -206,10 +210,28 @@ impl<V: Exact> Row<V> {
         ensures begins { 0 < result → BeginsTo (runs_above self.now (result - 1)) byte }
         ensures above { BeginAbove (runs_above self.now result) byte }
     {
-        if self.rest.is_empty() {
-            return 0;
+        match self.rest.split_first() {
+            Some((part, _)) if part.first() <= byte => begin_to(&self.rest, byte),
+            _ => 0,
         }
-        begin_to(&self.rest, byte)
+    }
+
+    // The place that `place` gives, where `from` is the one of a lower byte. If the part above that
+    // one begins above the byte, it is the same, and nothing is halved.
+    #[inline(always)]
+    pub(crate) fn place_from(&self, from: usize, byte: u64) -> usize
+        requires within { from ≤ vec_len self.now.rest }
+        requires ended { EndsBelow (runs_below self.now from) byte }
+        requires runs { AreRuns (row_runs self.now) }
+        requires some { AreSome self.now.rest.items }
+        ensures within { result ≤ vec_len self.now.rest }
+        ensures ended { EndsBelow (runs_below self.now result) byte }
+        ensures above { BeginAbove (runs_above self.now result) byte }
+    {
+        match self.above(from).split_first() {
+            Some((part, _)) if part.first() <= byte => self.place(byte),
+            _ => from,
+        }
     }
 
     // The runs of the part at place `at`.

@@ -3,11 +3,11 @@
 //! Each function here that can fail errs with `AllocError`, where a request for memory was refused.
 ghost use Rattle.std.specs.Prelude.{◌≡◌, ◌≤◌, ◌+◌, ℕ, nat_le, length, None, [], IfOk, MatchOption};
 ghost use Rattle.intervals.specs.rule.Bytes.{greatest, nothing, number_of_runs, put, IsRun, IsBarred, NoneIn, IsFirstIn, IsLargest};
-ghost use Rattle.intervals.specs.code.Runs.{bytes_of, value_at, IsLowestFree, IsHighestFree};
+ghost use Rattle.intervals.specs.code.Runs.{bytes_of, value_at};
 ghost use Rattle.intervals.specs.code.Edits.{written};
-ghost use Rattle.intervals.specs.code.Entries.{NoneFrom, NoneBelow, IsNext, IsPrevious};
+ghost use Rattle.intervals.specs.code.Entries.{NoneFrom, IsNext};
 
-use crate::byte_run::{ByteRun, begin_after, is_barred, last_to, split_before};
+use crate::byte_run::{ByteRun, begin_after, is_barred, split_before};
 use crate::row::{Row, next_of};
 use crate::span::Span;
 use crate::span_edit::SpanEdit;
@@ -15,13 +15,16 @@ use crate::span_map::{Exact, SpanMap};
 use std::alloc::{AllocError, Global};
 use std::marker::Model;
 
+mod around;
+
 // A write of a map of at least so many runs takes memory for a multiple of this number.
 const MANY: usize = 1024;
 
 /// A map from bytes to values, as a row of sorted vectors of longest runs, of 64 runs at most if
-/// memory allows. A look-up halves the row, and then one vector, until it is at the byte. A write
-/// finds both ends of its span in the same way and moves only the runs behind it in its own vector.
-/// A vector with more than 64 runs is cut in two if the planned write holds memory for that.
+/// memory allows. A look-up halves the row, and then one vector, until it is at the byte, unless
+/// that is at an end of them. A write finds both ends of its span in the same way and moves only the
+/// runs behind it in its own vector. A vector with more than 64 runs is cut in two if the planned
+/// write holds memory for that.
 #[derive(Drop)]
 pub struct TreeMap<V> {
     row: Row<V>,
@@ -147,53 +150,18 @@ impl<V: Exact> TreeMap<V> {
         self.starts - within + first + next
     }
 
-    // The last run that begins below the byte.
-    fn previous(&self, byte: u64) -> Option<ByteRun<V>>
-        ensures { MatchOption result (NoneBelow (value_at self.now) byte) (IsPrevious (value_at self.now) byte) }
+    /// Whether at most `most` longest runs would begin if each byte of the span had the value, or
+    /// none. Takes no memory. A write makes at most two more begin, so no run is read where the map
+    /// has two fewer than `most`.
+    #[inline]
+    pub fn stays_within(&self, span: Span, value: Option<V>, most: usize) -> bool
+        ensures { result ≡ nat_le (number_of_runs V.PartialEq.eq (put (value_at self.now) span value)) most }
     {
-        if byte == 0 {
-            return None;
+        let _ = &span.lo; // tells the proof that the span has a byte
+        if self.starts + 2 <= most {
+            return true;
         }
-        let part = self.row.part(self.row.place(byte - 1));
-        last_to(part, byte - 1)
-    }
-
-    // The lowest byte, from `low` on, such that no byte from it on and below `from` is barred.
-    fn lowest_free(&self, low: u64, from: u64, bar: Option<V>) -> u64
-        requires free { IsBarred (value_at self.now) bar from → ⊥ }
-        requires order { low ≤ from }
-        ensures { IsLowestFree (IsBarred (value_at self.now) bar) low from result }
-    {
-        let mut end = from;
-        while let Some(run) = self.previous(end) {
-            if run.hi < low {
-                break;
-            }
-            if is_barred(bar, run.value) {
-                return run.hi + 1;
-            }
-            end = run.lo;
-        }
-        low
-    }
-
-    // The highest byte, up to `high`, such that no byte above `to` and up to it is barred.
-    fn highest_free(&self, to: u64, high: u64, bar: Option<V>) -> u64
-        requires order { to ≤ high }
-        requires bounded { high ≤ greatest }
-        ensures { IsHighestFree (IsBarred (value_at self.now) bar) to high result }
-    {
-        let mut start = to + 1;
-        while let Some(run) = self.next(start) {
-            if run.lo > high {
-                break;
-            }
-            if is_barred(bar, run.value) {
-                return run.lo.saturating_sub(1).max(to);
-            }
-            start = run.hi + 1;
-        }
-        high
+        self.starts_with(span, value) <= most
     }
 }
 

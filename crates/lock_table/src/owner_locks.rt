@@ -2,7 +2,7 @@
 ghost use Rattle.std.specs.Prelude.{◌≡◌, ℕ, ◌++◌, List, None, Some, false, IsTrue, ◌↔◌, IfOk, OnOk, MatchOption};
 ghost use Rattle.intervals.specs.rule.Bytes.{IsBarred, IsRun, NoneIn};
 ghost use Rattle.intervals.specs.code.Runs.{value_at};
-ghost use Rattle.lock_table.specs.code.Rows.{row_cmp, IsSameRow, locks_of, IsBounded, NothingFrom};
+ghost use Rattle.lock_table.specs.code.Rows.{mark_cmp, IsSameRow, locks_of, IsBounded, NothingFrom};
 ghost use Rattle.lock_table.specs.code.Regions.{rest_from, IsFirstRegion};
 ghost use Rattle.lock_table.specs.code.Blockers.{IsLowestBut};
 ghost use Rattle.lock_table.specs.code.Pages.{Has};
@@ -40,11 +40,13 @@ fn is_left_out(out: &Option<Owner>, owner: Owner) -> bool
 }
 
 impl OwnerLocks {
-    /// How the row stands to the place of an owner in a file: by file, then by flag, then by owner.
-    pub(crate) fn cmp_place(&self, file: u16, owner: Owner) -> Ordering
-        ensures { result ≡ row_cmp self.now file owner }
+    /// How the row stands to the place of an owner, of which the mark is given: by mark, then by
+    /// owner.
+    #[inline]
+    pub(crate) fn cmp_place(&self, mark: usize, owner: Owner) -> Ordering
+        ensures { result ≡ mark_cmp self.now mark owner }
     {
-        match mark_of(self.file, self.owner).cmp(&mark_of(file, owner)) {
+        match mark_of(self.file, self.owner).cmp(&mark) {
             Ordering::Equal => self.owner.cmp(&owner),
             Ordering::Less => Ordering::Less,
             Ordering::Greater => Ordering::Greater,

@@ -1,7 +1,7 @@
 //! The bytes that one owner holds in one file.
 //!
 //! Each function here that can fail errs with `AllocError`, where a request for memory was refused.
-ghost use Rattle.std.specs.Prelude.{◌≡◌, ◌≤◌, ◌<◌, ◌↔◌, ℕ, length, None, [], IfOk, IsTrue, MatchOption};
+ghost use Rattle.std.specs.Prelude.{◌≡◌, ◌≤◌, ◌<◌, ◌↔◌, ℕ, nat_le, length, None, [], IfOk, IsTrue, MatchOption};
 ghost use Rattle.intervals.specs.rule.Bytes.{greatest, nothing, put, IsBarred, IsFirstIn, IsLargest, IsRun, NoneIn};
 ghost use Rattle.intervals.specs.code.Runs.{value_at};
 ghost use Rattle.intervals.specs.code.Edits.{written};
@@ -92,11 +92,11 @@ impl OwnerSpans {
         self.spans.next(byte)
     }
 
-    /// The number of regions with the span set to the mode, or freed.
-    pub(crate) fn starts_with(&self, span: Span, mode: Option<Mode>) -> usize
-        ensures { result ≡ regions (put (value_at self.now) span mode) }
+    /// Whether there are at most `most` regions with the span set to the mode, or freed.
+    pub(crate) fn stays_within(&self, span: Span, mode: Option<Mode>, most: usize) -> bool
+        ensures { result ≡ nat_le (regions (put (value_at self.now) span mode)) most }
     {
-        self.spans.starts_with(span, mode)
+        self.spans.stays_within(span, mode, most)
     }
 
     /// Whether no byte has the mode `bar` (with `None`: any mode), as far as is known without

@@ -1,33 +1,28 @@
 //! The node, and how its steps are planned and applied.
-ghost use Rattle.std.specs.Prelude.{◌≡◌, ◌≢◌, ◌≤◌, ◌-◌, ◌↔◌, Some, Ok, Err, IfOk, IfErr, IfSome, IsTrue};
-ghost use Rattle.std.specs.List.{slice_get};
-ghost use Rattle.model.specs.rule.Limits.{IsNumber, most_processes};
+ghost use Rattle.std.specs.Prelude.{◌≡◌, ◌≢◌, ◌≤◌, ◌-◌, ◌↔◌, Ok, Err, IfOk, IfErr, IsTrue};
+ghost use Rattle.model.specs.rule.Limits.{IsNumber};
 ghost use Rattle.node_core.specs.declared.event.NodeEvent.TheVariants.{Input, Deliver};
-ghost use Rattle.node_core.specs.rule.State.{first_node, host, process, id_of, open_call, open_call_of};
+ghost use Rattle.node_core.specs.rule.State.{first_node, host};
 ghost use Rattle.node_core.specs.rule.Node.{node_rule};
 ghost use Rattle.node_core.specs.rule.Files.{state_of};
-ghost use Rattle.node_core.specs.rule.Parts.{node_state, IsCallOf};
+ghost use Rattle.node_core.specs.rule.Parts.{node_state};
 ghost use Rattle.node_core.specs.code.Plans.{planned, Fits};
 
 use crate::change::NodeChange;
 use crate::event::NodeEvent;
 use crate::file_row::FileRow;
-use crate::files::{apply_command, clear_owed, copy_files, file_of, new_files, same_files};
+use crate::files::{apply_command, clear_owed, copy_files, new_files, same_files};
 use crate::node_edit::{NodeDraft, NodeEdit, apply_table};
 use crate::numbers::calls_after;
-use crate::open_call::OpenCall;
 use crate::open_calls::OpenCalls;
 use descriptors::processes::Processes;
 use lock_table::lock_table::LockTable;
 use messages::event::NodeInput;
-use messages::file_number::FileNumber;
 use messages::message::Message;
 use messages::outcome::Outcome;
 use messages::refusal::StepError;
 use messages::shape::Shape;
-use model::call::CallId;
 use model::host::Host;
-use model::process::Process;
 use std::alloc::{AllocError, Global};
 use std::marker::Model;
 
@@ -125,30 +120,6 @@ impl Node {
         })
     }
 
-    #[tactic(auto, unfolding(crate::specs::rule::Parts::node_state))]
-    fn process(&self, pid: u16) -> Process
-        requires { IsNumber most_processes pid }
-        ensures { result ≡ process (node_state self.now) pid }
-    {
-        Process {
-            node: self.node,
-            incarnation: self.incarnation,
-            pid,
-        }
-    }
-
-    #[tactic(auto, unfolding(crate::specs::rule::Parts::node_state))]
-    fn id(&self, number: u32) -> CallId
-        requires { 1 ≤ number }
-        ensures { result ≡ id_of (node_state self.now) number }
-    {
-        CallId {
-            node: self.node,
-            incarnation: self.incarnation,
-            number,
-        }
-    }
-
     /// The node and its incarnation.
     #[tactic(auto, unfolding(crate::specs::rule::Parts::node_state))]
     pub fn host(&self) -> Host
@@ -158,43 +129,6 @@ impl Node {
             node: self.node,
             incarnation: self.incarnation,
         }
-    }
-
-    // The open call with this number.
-    #[tactic(auto, unfolding(crate::specs::rule::Parts::node_state))]
-    fn open_call(&self, number: u32) -> Option<OpenCall>
-        ensures value { result ≡ open_call (node_state self.now) number }
-        ensures own { IfSome result (IsCallOf (node_state self.now)) }
-    {
-        self.pending.get(number)
-    }
-
-    // The open call of the process.
-    #[tactic(auto, unfolding(crate::specs::rule::Parts::node_state))]
-    fn open_call_of(&self, pid: u16) -> Option<OpenCall>
-        ensures value { result ≡ open_call_of (node_state self.now) pid }
-        ensures own { IfSome result (IsCallOf (node_state self.now)) }
-    {
-        self.pending.call_of(pid)
-    }
-
-    // What the node knows of the file.
-    fn file(&self, file: u16) -> &FileRow
-        requires { IsNumber (node_state self.now).shape.files file }
-        ensures state { state_of result.now ≡ (node_state self.now).files file }
-        ensures row { slice_get self.now.files (file - 1) ≡ Some result.now }
-    {
-        file_of(&self.files, file)
-    }
-
-    // The number of a file of the shape, as messages have it.
-    #[tactic(auto, unfolding(crate::specs::rule::Parts::node_state))]
-    fn file_number(&self, file: u16) -> FileNumber
-        requires { IsNumber (node_state self.now).shape.files file }
-        ensures { result ≡ file }
-    {
-        let _ = self.shape.files(); // tells the proof that the number of files is in range
-        FileNumber::of(file)
     }
 
     /// Plans what the node does when the message is delivered, as `plan` does for the event.
@@ -329,5 +263,6 @@ mod calls;
 mod commands;
 mod interrupts;
 mod readers;
+mod reading;
 mod shuts;
 mod tries;

@@ -1,15 +1,15 @@
--- The rest of a run whose entries are taken out one by one.
-use Rattle.std.proofs.Common.{◌≡◌, ℕ, zero, suc, ◌+◌, ◌-◌, ◌<◌, ◌≤◌, refl, sym, ◌∙◌, ap, subst, arith, List, [], ◌∷◌, ◌++◌, length, length-append, map, reverse, get_or, slice_get, slice_set, Option, Some, None}
-use Rattle.std.proofs.lemmas.List.{length-reverse, get_or-reverse, reverse-append}
+-- The rest of a run whose entries go one by one.
+use Rattle.std.proofs.Common.{◌≡◌, ℕ, zero, suc, ◌+◌, ◌-◌, ◌<◌, ◌≤◌, refl, sym, ◌∙◌, ap, subst, arith, List, [], ◌∷◌, ◌++◌, length, length-append, map, reverse, drop, get_or, slice_get, slice_set, Option, Some, None}
+use Rattle.std.proofs.lemmas.List.{length-map, length-reverse, get_or-reverse, reverse-append}
 use Rattle.std.proofs.Math.Seq.{get_or-append_seam}
-use Rattle.std.proofs.lemmas.Option.{slice_get-get_or, slice_get_past, get_or_from_slice_get}
+use Rattle.std.proofs.lemmas.Option.{slice_get-get_or, slice_get_past, get_or_from_slice_get, none-some, same_Some}
 use Rattle.model.specs.declared.op.Op.{Op}
 use Rattle.messages.specs.declared.entry.Entry.{Entry}
 use Rattle.cluster_core.specs.declared.item.Item.{Item}
 use Rattle.placement.specs.declared.slot.Slot.{Slot}
 use Rattle.placement.specs.declared.slot.Slot.TheVariants.{Empty, Declared, Answered}
 use Rattle.placement.specs.code.Standing.{made_by, declared_by, answered_by, stands, standing}
-use Rattle.placement.specs.code.Rests.{RestFields, Takes, called_at, stands_from, IsAhead, AreAhead}
+use Rattle.placement.specs.code.Rests.{RestFields, StartsWith, without_first, called_at, stands_from, IsAhead, AreAhead}
 
 -- a slot more, and another in the place of one
 pub ahead_push : (k : ℕ) (slots : List Slot) (s : Slot) → AreAhead k slots → IsAhead (k + length slots) s → AreAhead k (slots ++ s ∷ [])
@@ -21,7 +21,7 @@ ahead_set k [] i s all one = tt
 ahead_set k (d ∷ ds) zero s all one = (subst (λ (n : ℕ). IsAhead n s) (omega arith) one, all.1)
 ahead_set k (d ∷ ds) (suc i) s all one = (all.0, ahead_set (k + 1) ds i s all.1 (subst (λ (n : ℕ). IsAhead n s) (omega arith) one))
 
--- before any entry was taken out a slot has its item
+-- before any entry went a slot has its item
 stands_first : (es : List Entry) (s : Slot) → stands_from [] es s ≡ stands es s
 stands_first es Empty = refl
 stands_first es (Declared at entry) =
@@ -35,7 +35,7 @@ pub standing_first : (es : List Entry) (slots : List Slot) → map (stands_from 
 standing_first es [] = refl
 standing_first es (s ∷ ss) = ap (λ (o : Option Item). o ∷ map (stands_from [] es) ss) (stands_first es s) ∙ ap (λ (os : List (Option Item)). stands es s ∷ os) (standing_first es ss)
 
--- the entry behind those that were taken out is found among those that are left
+-- the entry behind those that went is found among those that are left
 called_past : (made : List (Option (ℕ × Op))) (rest : List Entry) (k : ℕ) → called_at made rest (length made + k) ≡ made_by (slice_get rest k)
 called_past [] rest k =
     let none : 0 + k ≡ k = omega arith in
@@ -54,7 +54,7 @@ called_gone [] rest k d lt = absurd (omega arith)
 called_gone (m ∷ ms) rest zero d lt = refl
 called_gone (m ∷ ms) rest (suc k) d lt = called_gone ms rest k d (omega arith)
 
--- one entry is taken out
+-- one entry goes
 module _ (e : Entry) (rest : List Entry) where
   called_next : (made : List (Option (ℕ × Op))) (k : ℕ) → called_at made (e ∷ rest) k ≡ called_at (made ++ made_by (Some e) ∷ []) rest k
   called_next [] zero = refl
@@ -123,15 +123,76 @@ reverse_last old new x is = ap reverse is ∙ reverse-append new (x ∷ [])
 abbrev pub rest_of : List (Option (ℕ × Op)) → List Entry → List Slot → RestFields
 rest_of made es slots = record { entries = reverse es; standing = map (stands_from made (reverse es)) (reverse slots) }
 
--- the first entry that is left is taken out
-pub takes : (made grown : List (Option (ℕ × Op))) (es fewer : List Entry) (slots others : List Slot) (e : Entry) (s : Slot) (o : Option Item) → es ≡ fewer ++ e ∷ [] → slots ≡ others ++ s ∷ [] → AreAhead (length made) (reverse slots) → o ≡ stands_from made (reverse es) s → grown ≡ made ++ made_by (Some e) ∷ [] → Takes (rest_of made es slots) (Some (e, o)) (rest_of grown fewer others)
-takes made grown es fewer slots others e s o es_is slots_is ahead o_is grown_is =
+-- the last element is the first of the reversed list
+reversed_first : {A : Type 0} (xs : List A) → slice_get (reverse xs) 0 ≡ slice_get xs (length xs - 1)
+reversed_first [] = refl
+reversed_first (x ∷ xs) =
+    let ys = x ∷ xs in
+    let long = length-reverse ys in
+    let place : length ys - 1 - 0 ≡ length ys - 1 = omega arith in
+    slice_get-get_or (reverse ys) 0 x (omega arith)
+    ∙ (ap (λ y. Some y) (get_or-reverse ys 0 x (omega arith) ∙ ap (λ (n : ℕ). get_or ys n x) place)
+    ∙ sym (slice_get-get_or ys (length ys - 1) x (omega arith)))
+
+-- a list that begins with an element, or with none
+begins : {A : Type 0} (xs : List A) (x : A) → slice_get xs 0 ≡ Some x → xs ≡ x ∷ drop 1 xs
+begins [] x is = absurd (none-some x is)
+begins (y ∷ ys) x is = ap (λ z. z ∷ ys) (same_Some y x is)
+
+none_begins : {A : Type 0} (xs : List A) → slice_get xs 0 ≡ None → xs ≡ []
+none_begins [] is = refl
+none_begins (y ∷ ys) is = absurd (none-some y (sym is))
+
+goes_on : {A : Type 0} (xs : List A) (d : A) → 0 < length xs → xs ≡ get_or xs 0 d ∷ drop 1 xs
+goes_on [] d lt = absurd (omega arith)
+goes_on (x ∷ xs) d lt = refl
+
+no_length : {A : Type 0} (xs : List A) → length xs ≡ 0 → xs ≡ []
+no_length [] is = refl
+no_length (x ∷ xs) is = absurd (omega arith)
+
+-- the first of the entries that are left, and what stands there
+pub starts : (made : List (Option (ℕ × Op))) (es : List Entry) (slots : List Slot) (o : Option Entry) → length slots ≡ length es → o ≡ slice_get es (length es - 1) → StartsWith (rest_of made es slots) o
+starts made es slots None each is =
+    let none = none_begins (reverse es) (reversed_first es ∙ sym is) in
+    let empty = ap length none in
+    let long = length-reverse es in
+    let long_slots = length-reverse slots in
+    (none, ap (map (stands_from made (reverse es))) (no_length (reverse slots) (omega arith)))
+starts made es slots (Some e) each is =
+    let first = begins (reverse es) e (reversed_first es ∙ sym is) in
+    let one = ap length first in
+    let long = length-reverse es in
+    let long_slots = length-reverse slots in
+    let items = map (stands_from made (reverse es)) (reverse slots) in
+    let long_items = length-map (reverse slots) (stands_from made (reverse es)) in
+    (first, goes_on items None (omega arith))
+
+pub stands_at_first : (made : List (Option (ℕ × Op))) (es : List Entry) (slots : List Slot) (s : Slot) → Some s ≡ slice_get slots (length slots - 1) → stands_from made (reverse es) s ≡ get_or (map (stands_from made (reverse es)) (reverse slots)) 0 None
+stands_at_first made es slots s is =
+    sym (ap (λ (ss : List Slot). get_or (map (stands_from made (reverse es)) ss) 0 None) (begins (reverse slots) s (reversed_first slots ∙ sym is)))
+
+-- the first entry that is left goes
+pub goes : (made grown : List (Option (ℕ × Op))) (es fewer : List Entry) (slots others : List Slot) (e : Entry) (s : Slot) → es ≡ fewer ++ e ∷ [] → slots ≡ others ++ s ∷ [] → AreAhead (length made) (reverse slots) → grown ≡ made ++ made_by (Some e) ∷ [] → rest_of grown fewer others ≡ without_first (rest_of made es slots)
+goes made grown es fewer slots others e s es_is slots_is ahead grown_is =
     let left = reverse_last es fewer e es_is in
-    let still = reverse_last slots others s slots_is in (
-      left,
-      ap (map (stands_from made (reverse es))) still
-          ∙ (ap (λ (x : Option Item). x ∷ map (stands_from made (reverse es)) (reverse others)) (sym o_is)
-          ∙ (ap (λ (xs : List Entry). o ∷ map (stands_from made xs) (reverse others)) left
-          ∙ (ap (λ (xs : List (Option Item)). o ∷ xs) (standing_next e (reverse fewer) made (reverse others) (subst (AreAhead (length made)) still ahead).1)
-          ∙ ap (λ (m : List (Option (ℕ × Op))). o ∷ map (stands_from m (reverse fewer)) (reverse others)) (sym grown_is)))),
+    let still = reverse_last slots others s slots_is in
+    let entries : reverse fewer ≡ drop 1 (reverse es) = sym (ap (λ (xs : List Entry). drop 1 xs) left) in
+    let items : map (stands_from grown (reverse fewer)) (reverse others) ≡ drop 1 (map (stands_from made (reverse es)) (reverse slots)) =
+    ap (λ (m : List (Option (ℕ × Op))). map (stands_from m (reverse fewer)) (reverse others)) grown_is
+    ∙ (sym (standing_next e (reverse fewer) made (reverse others) (subst (AreAhead (length made)) still ahead).1)
+    ∙ (ap (λ (xs : List Entry). map (stands_from made xs) (reverse others)) (sym left)
+    ∙ sym (ap (λ (ss : List Slot). drop 1 (map (stands_from made (reverse es)) ss)) still))) in
+    ap (λ (xs : List Entry). rest xs (map (stands_from grown (reverse fewer)) (reverse others))) entries
+    ∙ ap (λ (os : List (Option Item)). rest (drop 1 (reverse es)) os) items
+  where
+    rest : List Entry → List (Option Item) → RestFields
+    rest es os = record { entries = es; standing = os }
+
+-- the first entry that is left, with what stands there, and what is left behind it
+pub taken : (old new : RestFields) (o : Option Entry) (e : Entry) (item : Option Item) → StartsWith old o → o ≡ Some e → item ≡ get_or old.standing 0 None → new ≡ without_first old → (old.entries ≡ e ∷ new.entries) × (old.standing ≡ item ∷ new.standing)
+taken old new o e item starts is item_is new_is =
+    let first = subst (StartsWith old) is starts in (
+      first.0 ∙ ap (λ (left : RestFields). e ∷ left.entries) (sym new_is),
+      first.1 ∙ (ap (λ (i : Option Item). i ∷ drop 1 old.standing) (sym item_is) ∙ ap (λ (left : RestFields). item ∷ left.standing) (sym new_is)),
     )

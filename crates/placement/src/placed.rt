@@ -1,12 +1,12 @@
 //! The one history of a run.
-ghost use Rattle.std.specs.Prelude.{ℕ, ◌≡◌, ◌≤◌, ◌<◌, ⊤, List, ◌++◌, ◌∷◌, [], length, slice_get, Some, IfOk, OnOk, MatchOption};
+ghost use Rattle.std.specs.Prelude.{ℕ, ◌≡◌, ◌≤◌, ◌<◌, ◌+◌, ⊤, List, ◌++◌, ◌∷◌, [], length, slice_get, Some, IfOk, OnOk, MatchOption};
 ghost use Rattle.model.specs.declared.call.CallId.{CallId};
 ghost use Rattle.model.specs.declared.reply.Reply.{Reply};
 ghost use Rattle.messages.specs.declared.entry.Entry.{Entry};
 ghost use Rattle.cluster_core.specs.rule.World.{journal_limit};
 ghost use Rattle.cluster_core.specs.rule.Safe.{LeadsToSafe};
 ghost use Rattle.cluster_core.specs.rule.Histories.{HasHistory, EachAtItsPlace};
-ghost use Rattle.cluster_core.specs.code.Placement.{find_call, item_of, slots_after, slots_of, items_in, history_of};
+ghost use Rattle.cluster_core.specs.code.Placement.{find_call, gone_at, item_of, slots_after, slots_of, items_in, history_of};
 ghost use Rattle.placement.specs.code.Indexes.{Indexes, Locates, Notes, AreBefore, slot_of};
 ghost use Rattle.placement.specs.code.Standing.{stands, standing};
 ghost use Rattle.placement.specs.code.Rests.{IsAhead, AreAhead};
@@ -14,7 +14,7 @@ ghost use Rattle.placement.specs.code.Rests.{IsAhead, AreAhead};
 use crate::call_index::CallIndex;
 use crate::history::History;
 use crate::revoke_id::RevokeId;
-use crate::slot::Slot;
+use crate::slot::{Slot, gone_at};
 use cluster_core::item::Item;
 use cluster_core::journal::Journal;
 use messages::entry::Entry;
@@ -151,10 +151,7 @@ fn answer(
 {
     let own = slots.len();
     let Some(answered) = entry.reply() else {
-        slots.push(Slot::Declared {
-            position: own as u32 + 1,
-            entry: own as u32,
-        })?;
+        slots.push(slot_of_failure(entry, own as u32))?;
         return Ok(());
     };
     slots.push(Slot::Empty)?;
@@ -162,6 +159,22 @@ fn answer(
         slots[index] = slot_at(calls, index as u32 + 1, answered.0, own as u32);
     }
     Ok(())
+}
+
+// The slot of an entry with that index that answers no call: it may declare the failure of a node.
+fn slot_of_failure(entry: &Entry, index: u32) -> Slot
+    requires { index < journal_limit }
+    ensures ahead { (k : ℕ) → k ≤ index → IsAhead k result }
+    ensures stands { (all : List Entry) → slice_get all index ≡ Some entry.now → stands all result ≡ gone_at (index + 1) entry.now.incarnation entry.now.event }
+{
+    let position = index + 1;
+    if gone_at(position, entry).is_none() {
+        return Slot::Empty;
+    }
+    Slot::Declared {
+        position,
+        entry: index,
+    }
 }
 
 // The slot for the call that an entry with this event answers: a denied call stands at the first entry that sent the

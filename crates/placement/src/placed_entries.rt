@@ -1,8 +1,8 @@
-//! The entries of a run, taken out one by one, each with the item that stands there in the history.
-ghost use Rattle.std.specs.Prelude.{◌≡◌, ◌<◌, ◌≤◌, ◌-◌, reverse as reversed, length, slice_get, option_copied, IfOk, OnErr};
+//! The entries of a run, which go one by one, each with the item that stands there in the history.
+ghost use Rattle.std.specs.Prelude.{◌≡◌, ◌<◌, ◌≤◌, ◌-◌, reverse as reversed, length, slice_get, option_copied, slice_index_or, None, OnOk, OnErr};
 ghost use Rattle.cluster_core.specs.rule.World.{journal_limit};
 ghost use Rattle.placement.specs.code.Standing.{made_by, standing};
-ghost use Rattle.placement.specs.code.Rests.{Takes, IsAhead, AreAhead, called_at, stands_from};
+ghost use Rattle.placement.specs.code.Rests.{StartsWith, without_first, IsAhead, AreAhead, called_at, stands_from};
 
 use crate::made::Made;
 use crate::slot::{Slot, answered_at, gone_at, made_by};
@@ -12,14 +12,14 @@ use model::op::Op;
 use std::alloc::{AllocError, Global};
 use std::marker::Model;
 
-// The memory of entries that were taken out is given back after this many.
+// The memory of entries that went is given back after this many.
 const ENTRIES_AT_ONCE: usize = 16_384;
 
 /// The entries of a run that are left, each with the item that stands there in the history, if one does. An entry
-/// that was taken out needs less memory: only the call that it makes is kept, in 40 bytes.
+/// that went needs less memory: only the call that it makes is kept, in 40 bytes.
 #[derive(Drop)]
 pub struct PlacedEntries {
-    // The calls of the entries that were taken out, in their order.
+    // The calls of the entries that went, in their order.
     made: Made,
     // The entries that are left and their slots, the last of them first.
     entries: Vec<Entry>,
@@ -56,34 +56,51 @@ impl PlacedEntries {
         }
     }
 
-    /// Takes the first entry out, with the item that stands there, if one does; `None` where no entry is left.
+    /// The first entry, if one is left.
+    pub fn first(&self) -> Option<&Entry>
+        ensures { StartsWith self.now (option_copied result) }
+    {
+        self.entries.last()
+    }
+
+    /// The item that stands at the first entry, if one does.
+    pub fn item(&self) -> Option<Item>
+        ensures { result ≡ slice_index_or self.now.standing 0 None }
+    {
+        let slot = *self.slots.last()?;
+        if let Slot::Empty = slot {
+            return None;
+        }
+        item_at(&self.made, self.entries.as_slice(), slot)
+    }
+
+    /// Lets the first entry go, if one is left.
     ///
     /// # Errors
-    /// `AllocError` where a request for memory was refused. Nothing was taken out then.
-    pub fn next(&mut self) -> Result<Option<(Entry, Option<Item>)>, AllocError>
-        ensures takes { IfOk result (λ first. Takes self.old first self.new) }
+    /// `AllocError` where a request for memory was refused. No entry went then.
+    pub fn drop_first(&mut self) -> Result<(), AllocError>
+        ensures goes { OnOk result (self.new ≡ without_first self.old) }
         ensures unchanged { OnErr result (self.new ≡ self.old) }
     {
-        let (Some(entry), Some(slot)) = (self.entries.last(), self.slots.last()) else {
-            return Ok(None);
+        let Some(entry) = self.entries.last() else {
+            return Ok(());
         };
-        let item = item_at(&self.made, self.entries.as_slice(), *slot);
         self.made.push(made_by(entry))?;
-        let (Some(entry), Some(_)) = (self.entries.pop(), self.slots.pop()) else {
-            unreachable!()
-        };
-        give_back(&mut self.entries);
-        give_back(&mut self.slots);
-        Ok(Some((entry, item)))
+        drop(self.entries.pop());
+        self.slots.pop();
+        give_back(&mut self.entries, &mut self.slots);
+        Ok(())
     }
 }
 
-// Gives back the memory of what was taken out, if it is enough.
-fn give_back<T>(left: &mut Vec<T>)
-    ensures { left.new.items ≡ left.old.items }
+// Gives back the memory of the entries that went and of their slots, if it is enough.
+fn give_back(entries: &mut Vec<Entry>, slots: &mut Vec<Slot>)
+    ensures entries { entries.new.items ≡ entries.old.items }
+    ensures slots { slots.new.items ≡ slots.old.items }
 {
-    if left.len() % ENTRIES_AT_ONCE == 0 {
-        left.shrink_to_fit();
+    if entries.len() % ENTRIES_AT_ONCE == 0 {
+        entries.shrink_to_fit();
+        slots.shrink_to_fit();
     }
 }
 

@@ -108,9 +108,9 @@ fn push_items(out: &mut String, entries: PlacedEntries) -> Result<(), AllocError
     ensures { OnOk result (string_bytes out.new ≡ string_bytes out.old ++ flat_map history_line (items_in entries.standing)) }
 {
     let mut entries = entries;
-    while let Some((entry, item)) = entries.next()? {
-        drop(entry);
-        push_standing(out, &item)?;
+    while let Some(_) = entries.first() {
+        push_standing(out, &entries.item())?;
+        entries.drop_first()?;
     }
     Ok(())
 }
@@ -151,11 +151,11 @@ fn push_items_and_entries<D: FileDraft>(
     let mut entries = entries;
     let mut lines = String::new(alloc);
     let mut position = 0u64;
-    while let Some((entry, item)) = entries.next()? {
+    while let Some(entry) = entries.first() {
         position += 1;
-        add_entry(draft, &mut lines, version, position, &entry)?;
-        drop(entry);
-        push_standing(out, &item)?;
+        add_entry(draft, &mut lines, version, position, entry)?;
+        push_standing(out, &entries.item())?;
+        entries.drop_first()?;
     }
     Ok(())
 }

@@ -193,9 +193,9 @@ fn push_tokens(out: &mut String, alloc: Global, tokens: &[NodeTokenRun]) -> Resu
 // Writes what stands at these entries.
 fn push_history(out: &mut String, alloc: Global, entries: PlacedEntries) -> Result<(), AllocError> {
     let mut entries = entries;
-    while let Some((entry, item)) = entries.next()? {
-        drop(entry);
-        push_standing(out, alloc, &item)?;
+    while let Some(_) = entries.first() {
+        push_standing(out, alloc, &entries.item())?;
+        entries.drop_first()?;
     }
     Ok(())
 }
@@ -230,11 +230,11 @@ fn push_items_and_entries<D: FileDraft>(
     let mut entries = entries;
     let mut lines = String::new(alloc);
     let mut position = 0u64;
-    while let Some((entry, item)) = entries.next()? {
+    while let Some(entry) = entries.first() {
         position += 1;
-        add_entry(draft, &mut lines, version, position, &entry)?;
-        drop(entry);
-        push_standing(out, alloc, &item)?;
+        add_entry(draft, &mut lines, version, position, entry)?;
+        push_standing(out, alloc, &entries.item())?;
+        entries.drop_first()?;
     }
     Ok(())
 }

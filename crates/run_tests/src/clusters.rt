@@ -5,7 +5,7 @@ use crate::gates::wait_for;
 use actors::client::Client;
 use actors::cluster::{Cluster, with_cluster};
 use actors::gate::{Gate, OpenGate};
-use actors::weather::Weather;
+use actors::weather::{Fair, Weather};
 use book::confirms::Confirms;
 use book::receipt::Receipt;
 use cluster_core::journal::Journal;
@@ -42,6 +42,21 @@ pub fn lock(mode: Mode, start: i64, len: i64) -> Op {
     })
 }
 
+/// A write lock of a process on descriptor 0.
+pub fn set(start: i64, len: i64) -> Op {
+    lock(Mode::Write, start, len)
+}
+
+/// Clients of process 1 of node 1, and of process 2 of that node.
+pub fn clients<'a, R: Wait>(
+    rt: &R,
+    cluster: &Lent<'a>,
+    node: u8,
+) -> Option<(Caller<'a>, Caller<'a>)> {
+    let one = cluster.client(rt, 1, 1).ok()?;
+    Some((one, cluster.client(rt, node, 2).ok()?))
+}
+
 /// The process begins, opens file 1 and sets a lock.
 pub fn begin<R: Wait>(rt: &R, client: &mut Caller<'_>, op: Op) -> Option<Receipt> {
     client.call(rt, Op::Process(ProcessCall::Spawn)).ok()?;
@@ -73,6 +88,21 @@ pub fn runs_right<
         Some(made) => Ok(is_right(made, &journal)),
         None => Ok(false),
     }
+}
+
+/// The same as `runs_right`, in fair weather.
+pub fn runs_fairly<
+    R: Threads + Wait + Clock + Sync,
+    G: Gate + Sync,
+    T,
+    F: FnOnce(&Lent<'_>) -> Option<T>,
+    L: FnOnce(T, &Journal) -> bool,
+>(rt: &R, alloc: Global, gate: &G, body: F, is_right: L) -> Result<bool, Fail>
+    requires body { F.IsAlwaysCallable body }
+    requires is_right { L.IsAlwaysCallable is_right }
+{
+    let weathers = vec![in alloc; Fair, Fair, Fair]?;
+    runs_right(rt, alloc, gate, weathers, body, is_right)
 }
 
 /// What the calls made, if they end within 10,000 turns. Else both nodes fail and begin again, so that no call goes on.

@@ -21,6 +21,8 @@ mod of_cluster_core;
 #[cfg(test)]
 mod of_descriptors;
 #[cfg(test)]
+mod of_history;
+#[cfg(test)]
 mod of_intervals;
 #[cfg(test)]
 mod of_journal_text;
@@ -42,6 +44,8 @@ mod of_threads;
 mod of_token_server;
 #[cfg(test)]
 mod of_token_set;
+#[cfg(test)]
+mod of_waits;
 #[cfg(test)]
 mod of_weathers;
 #[cfg(test)]

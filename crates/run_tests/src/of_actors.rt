@@ -1,15 +1,13 @@
 //! Clusters on threads, where a gate holds an actor or a node is declared failed meanwhile.
-use crate::clusters::{Caller, Lent, begin, holds_all, lock, runs_right};
+use crate::clusters::{Caller, Lent, begin, clients, holds_all, runs_fairly, set};
 use crate::gates::{Counter, Holder};
 use actors::call_error::CallError;
-use actors::gate::{Gate, OpenGate};
-use actors::weather::Fair;
+use actors::gate::OpenGate;
 use book::confirms::Confirms;
 use book::receipt::Receipt;
 use cluster_core::journal::Journal;
-use messages::event::{Event, MemberEvent, NodeInput};
-use model::mode::Mode;
-use model::op::{LockCall, LockCommand, Op, ProcessCall};
+use messages::event::{Event, MemberEvent};
+use model::op::{Op, ProcessCall};
 use model::owner::Kind;
 use std::alloc::Global;
 use std::sync::Wait;
@@ -17,11 +15,6 @@ use std::test::Fail;
 use std::thread;
 use std::thread::Threads;
 use std::time::{Clock, Duration};
-
-// A write lock of a process on descriptor 0.
-fn set(start: i64, len: i64) -> Op {
-    lock(Mode::Write, start, len)
-}
 
 // Gives a lock up.
 fn unlock(start: i64, len: i64) -> Op {
@@ -31,37 +24,6 @@ fn unlock(start: i64, len: i64) -> Op {
         start,
         len,
     }
-}
-
-// A wait of a process for the first ten bytes.
-const WAIT: Op = Op::Lock(LockCall {
-    command: LockCommand::Wait,
-    fd: 0,
-    kind: Kind::OfProcess,
-    mode: Mode::Write,
-    start: 0,
-    len: 10,
-});
-
-// The same as `runs_right`, in fair weather.
-fn runs_fairly<
-    R: Threads + Wait + Clock + Sync,
-    G: Gate + Sync,
-    T,
-    F: FnOnce(&Lent<'_>) -> Option<T>,
-    L: FnOnce(T, &Journal) -> bool,
->(rt: &R, alloc: Global, gate: &G, body: F, is_right: L) -> Result<bool, Fail>
-    requires body { F.IsAlwaysCallable body }
-    requires is_right { L.IsAlwaysCallable is_right }
-{
-    let weathers = vec![in alloc; Fair, Fair, Fair]?;
-    runs_right(rt, alloc, gate, weathers, body, is_right)
-}
-
-// Clients of process 1 of node 1, and of process 2 of that node.
-fn clients<'a, R: Wait>(rt: &R, cluster: &Lent<'a>, node: u8) -> Option<(Caller<'a>, Caller<'a>)> {
-    let one = cluster.client(rt, 1, 1).ok()?;
-    Some((one, cluster.client(rt, node, 2).ok()?))
 }
 
 // Node 2 makes a call while a call of node 1 is held at the gate.
@@ -233,99 +195,6 @@ fn a_node_is_declared_while_its_clients_call(rt: HostRuntime) -> Result<(), Fail
             call_until_failure(&rt, cluster, &mut one, &mut two)
         },
         |receipts, journal| holds_all(journal, &receipts),
-    )?;
-    assert!(rt; is_right);
-    Ok(())
-}
-
-// Whether the call ended without a reply, and is the wait of process 2 of node 2 where it says that it stands.
-fn is_wait_at(journal: &Journal, why: Option<CallError>) -> bool {
-    let Some(CallError::Killed { call_at }) = why else {
-        return false;
-    };
-    match journal.entries().get(call_at.saturating_sub(1) as usize) {
-        Some(entry) => matches!(
-            entry.event(),
-            Event::AtNode(
-                2,
-                NodeInput::Call {
-                    pid: 2,
-                    op: Op::Lock(LockCall {
-                        command: LockCommand::Wait,
-                        ..
-                    })
-                }
-            )
-        ),
-        None => false,
-    }
-}
-
-// Declares node 2 failed while its process waits: why the wait ended.
-fn declare_beside_wait<R: Threads + Wait + Clock + Sync>(
-    rt: &R,
-    cluster: &Lent<'_>,
-    two: &mut Caller<'_>,
-) -> Option<CallError> {
-    let (ended, _) = thread::join(
-        rt,
-        || two.call(rt, WAIT).err(),
-        || {
-            thread::sleep(rt, Duration::from_millis(50));
-            cluster.declare(rt, 2).is_ok()
-        },
-    );
-    ended
-}
-
-// Whether a call of the declared node is refused.
-fn is_fenced<R: Wait>(rt: &R, client: &mut Caller<'_>) -> bool {
-    client.call(rt, Op::Process(ProcessCall::Spawn)).err() == Some(CallError::Fenced)
-}
-
-// Node 2 fails while a process waits for a lock of node 1, which is refused then and later, and begins again: why the wait ended, and the
-// receipt of the next incarnation.
-fn wait_until_failure<R: Threads + Wait + Clock + Sync>(
-    rt: &R,
-    cluster: &Lent<'_>,
-    one: &mut Caller<'_>,
-    two: &mut Caller<'_>,
-) -> Option<(Option<CallError>, Receipt)> {
-    let held = begin(rt, one, set(0, 10))?;
-    two.told(&held);
-    begin(rt, two, set(20, 10))?;
-    let ended = declare_beside_wait(rt, cluster, two);
-    if !is_fenced(rt, two) || cluster.client(rt, 2, 2).err() != Some(CallError::Fenced) {
-        return None;
-    }
-    cluster.restart(rt, 2).ok()?;
-    let receipt = cluster
-        .client(rt, 2, 2)
-        .ok()?
-        .call(rt, Op::Process(ProcessCall::Spawn))
-        .ok()?;
-    is_fenced(rt, two).then_some((ended, receipt))
-}
-
-// Whether the receipt is that of the first call of a node's second incarnation.
-fn is_first_again(receipt: &Receipt) -> bool {
-    let call = receipt.call();
-    call.incarnation == 2 && call.number == 1
-}
-
-#[test]
-fn a_wait_ends_as_its_node_is_declared(rt: HostRuntime) -> Result<(), Fail> {
-    let is_right = runs_fairly(
-        &rt,
-        rt.alloc(),
-        &OpenGate,
-        |cluster| {
-            let (mut one, mut two) = clients(&rt, cluster, 2)?;
-            wait_until_failure(&rt, cluster, &mut one, &mut two)
-        },
-        |(ended, receipt), journal| {
-            is_wait_at(journal, ended) && journal.holds(&receipt) && is_first_again(&receipt)
-        },
     )?;
     assert!(rt; is_right);
     Ok(())

@@ -190,8 +190,8 @@ fn allows_what_one_machine_may_answer(rt: HostRuntime) {
     assert!(rt; wrong.is_none(), "{wrong:?}");
 }
 
-// A call at that place that is answered so.
-fn answered(position: u32, pid: u16, op: Op, reply: Reply) -> Item {
+/// A call at that place that is answered so.
+pub(crate) fn answered(position: u32, pid: u16, op: Op, reply: Reply) -> Item {
     Item::Answered {
         position,
         id: CallId {
@@ -293,31 +293,4 @@ fn has_limits(alloc: Global) -> bool {
 fn allows_as_many_regions_as_the_version_has(rt: HostRuntime) {
     let has_limits = has_limits(rt.alloc());
     assert!(rt; has_limits);
-}
-
-fn spawned_at(position: u32) -> Item {
-    answered(position, 7, Op::Process(ProcessCall::Spawn), Reply::Done)
-}
-
-// Whether two calls at these places make a history.
-fn is_history(alloc: Global, first: u32, second: u32) -> Option<bool> {
-    let items = vec![in alloc; spawned_at(first), spawned_at(second)].ok()?;
-    match History::new(Version::Second, items) {
-        Ok(history) => Some(history.items().len() == 2),
-        Err(_) => Some(false),
-    }
-}
-
-// Whether each call that stands behind the first makes one, and no other.
-fn rise(alloc: Global) -> bool {
-    is_history(alloc, 2, 5) == Some(true)
-        && is_history(alloc, 1, 2) == Some(true)
-        && is_history(alloc, 5, 5) == Some(false)
-        && is_history(alloc, 5, 4) == Some(false)
-}
-
-#[test]
-fn the_positions_of_a_history_rise(rt: HostRuntime) {
-    let rise = rise(rt.alloc());
-    assert!(rt; rise);
 }

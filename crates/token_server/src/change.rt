@@ -1,4 +1,6 @@
 //! A planned step of a token server: what it changes, and what it sends.
+ghost use Rattle.std.specs.Prelude.{◌≡◌};
+
 use crate::gone::Gone;
 use crate::known_nodes::new_row::NewRow;
 use crate::known_nodes::row_edit::RowEdit;
@@ -23,6 +25,25 @@ pub struct ServerEdit {
     pub active_spare: Option<Vec<ActiveRequest>>,
     pub queue_spare: Option<Box<Line>>,
     pub waiting_spare: Option<Box<Line>>,
+}
+
+impl ServerEdit {
+    // Adds to a draft what serving gives: the new rows, and the new memory of the active, the queued and the waiting
+    // requests.
+    pub(crate) fn complete(
+        &mut self,
+        given: Vec<NewRow>,
+        active_spare: Option<Vec<ActiveRequest>>,
+        queue_spare: Option<Box<Line>>,
+        waiting_spare: Option<Box<Line>>,
+    )
+        ensures { self.new ≡ record self.old { given = given; active_spare = active_spare; queue_spare = queue_spare; waiting_spare = waiting_spare } }
+    {
+        self.given = given;
+        self.active_spare = active_spare;
+        self.queue_spare = queue_spare;
+        self.waiting_spare = waiting_spare;
+    }
 }
 
 /// A planned step: its change, in a box, because many calls hand it up by value, and its outcome.

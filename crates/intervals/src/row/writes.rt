@@ -23,7 +23,7 @@ impl<V: Exact> Row<V> {
             return Ok(None);
         }
         let at = self.place(span.lo.saturating_sub(1));
-        let to = self.place(span.hi + 1);
+        let to = self.place_from(at, span.hi + 1);
         let mut len = self.part(at).len();
         if at < to {
             len = len.saturating_add(self.part(to).len());
@@ -205,7 +205,7 @@ impl<V: Exact> Row<V> {
         ensures count { length (row_runs self.new) + result.0 ≡ length (row_runs self.old) + result.1 }
     {
         let at = self.place(span.lo.saturating_sub(1));
-        let to = self.place(span.hi + 1);
+        let to = self.place_from(at, span.hi + 1);
         if at == to && self.part(at).len() <= MOST - 2 {
             return self.write_part(at, room, span, value);
         }

@@ -1,8 +1,10 @@
 -- The rows of a lock table, and the locks that they hold.
-use Rattle.std.specs.Prelude.{◌≡◌, ◌≢◌, ℕ, zero, suc, ◌+◌, ◌*◌, ◌/◌, ◌%◌, ◌<◌, ◌≤◌, ◌⊎◌, false, Option, None, length, get_or, List, [], ◌∷◌}
+use Rattle.std.specs.Prelude.{◌≡◌, ◌≢◌, ℕ, zero, suc, ◌+◌, ◌*◌, ◌/◌, ◌%◌, ◌<◌, ◌≤◌, ◌⊎◌, false, Option, None, Some, length, get_or, List, [], ◌∷◌}
+use Rattle.std.specs.Borrow.{Bor}
 use Rattle.std.specs.Ordering.{nat_cmp, ordering_then}
 use Rattle.std.specs.declared.cmp.Ordering.{Ordering}
 use Rattle.std.specs.declared.cmp.Ordering.TheVariants.{Less, Equal, Greater}
+use Rattle.intervals.specs.declared.byte_run.ByteRun.{ByteRun}
 use Rattle.intervals.specs.rule.Bytes.{greatest, nothing}
 use Rattle.intervals.specs.code.Runs.{value_at}
 use Rattle.model.specs.rule.Locks.{FileLocks, Locks, no_locks, replace}
@@ -36,9 +38,23 @@ pub record IsSameTable (a b : TableParts) : Type 0 where
 abbrev pub mark_of : ℕ → Owner → ℕ
 mark_of file owner = file * 256 + flag_of owner
 
+-- how a row stands to a mark and an owner: by mark, then by owner
+abbrev pub mark_cmp : OwnerLocks → ℕ → Owner → Ordering
+mark_cmp r mark owner = ordering_then (nat_cmp (mark_of r.file r.owner) mark) (owner_cmp r.owner owner)
+
 -- how a row stands to the place of an owner in a file: by file, then by flag, then by owner
 abbrev pub row_cmp : OwnerLocks → ℕ → Owner → Ordering
-row_cmp r file owner = ordering_then (nat_cmp (mark_of r.file r.owner) (mark_of file owner)) (owner_cmp r.owner owner)
+row_cmp r file owner = mark_cmp r (mark_of file owner) owner
+
+-- the bytes that the spans of an owner in a file hold; none if it has no spans there
+abbrev pub bytes_in : Option (Bor (List (ByteRun Mode))) → ℕ → Option Mode
+bytes_in None = nothing
+bytes_in (Some own) = value_at own.now
+
+-- the number of runs in the spans of an owner in a file
+abbrev pub runs_in : Option (Bor (List (ByteRun Mode))) → ℕ
+runs_in None = 0
+runs_in (Some own) = length own.now
 
 -- no byte past the greatest offset is held
 abbrev pub IsBounded : (ℕ → Option Mode) → Type 0

@@ -1,10 +1,10 @@
 //! The planned changes of the table of a node.
-ghost use Rattle.std.specs.Prelude.{◌≡◌, ◌≤◌, ◌<◌, ◌+◌, ◌-◌, ◌/◌, ◌*◌, ◌%◌, IfOk, IfSome, length, [], OnOk, Err};
+ghost use Rattle.std.specs.Prelude.{◌≡◌, ◌≤◌, ◌<◌, ◌+◌, ◌-◌, ◌/◌, ◌*◌, ◌%◌, false, nat_le, IfOk, IfSome, length, [], OnOk, Err};
 ghost use Rattle.intervals.specs.rule.Bytes.{nothing, put};
 ghost use Rattle.model.specs.rule.Locks.{with_lock, regions};
 ghost use Rattle.lock_table.specs.declared.error.LockError.TheVariants.{NoLocks};
 ghost use Rattle.std.specs.Vec.{vec_capacity};
-ghost use Rattle.lock_table.specs.code.Rows.{held, HasRoom, HasRuns};
+ghost use Rattle.lock_table.specs.code.Rows.{bytes_in, runs_in, held, HasRoom, HasRuns};
 
 use super::{LEAST_ROWS, LockEdit, LockTable, PLACES, position};
 use crate::error::LockError;
@@ -18,35 +18,65 @@ use model::owner::Owner;
 use std::alloc::AllocError;
 
 impl LockTable {
-    // The number of regions that the owner would have in the file with the span set to the mode, or
-    // freed. Takes no memory.
-    fn regions_with(&self, file: u16, owner: Owner, span: Span, mode: Option<Mode>) -> usize
-        ensures { result ≡ regions (put (held self.now file owner) span mode) }
+    // What the owner holds in the file; `None` where the owner has no row there, and so holds
+    // nothing.
+    fn spans_of(&self, file: u16, owner: Owner) -> Option<&OwnerSpans>
+        ensures held { bytes_in result ≡ held self.now file owner }
+        ensures runs { HasRuns self.now.rows file owner (runs_in result) }
+        ensures row { IfSome result (λ _. HasRoom self.now.rows file owner 0) }
     {
         match position(&self.rows, file, owner) {
-            Ok(i) => self.rows[i].spans.starts_with(span, mode),
-            Err(_) => {
+            Ok(i) => Some(&self.rows[i].spans),
+            Err(_) => None,
+        }
+    }
+
+    // Whether an owner with these spans in a file has no more regions there than the limit, with
+    // the span set to the mode, or freed. Takes no memory.
+    fn stays_within(&self, own: Option<&OwnerSpans>, span: Span, mode: Option<Mode>) -> bool
+        ensures { result ≡ nat_le (regions (put (bytes_in own.entry) span mode)) self.now.limit }
+    {
+        match own {
+            Some(own) => own.stays_within(span, mode, self.limit),
+            None => {
                 let nothing = OwnerSpans::new(*self.rows.allocator());
-                nothing.starts_with(span, mode)
+                nothing.stays_within(span, mode, self.limit)
+            }
+        }
+    }
+
+    // The planned write to what an owner with these spans in a file holds there.
+    fn plan_write(
+        &self,
+        own: Option<&OwnerSpans>,
+        span: Span,
+        mode: Option<Mode>,
+    ) -> Result<SpanEdit<Mode>, AllocError>
+        ensures span { IfOk result (λ write. write.span ≡ span) }
+        ensures mode { IfOk result (λ write. write.value ≡ mode) }
+        ensures runs { IfOk result (λ write. runs_in own.entry ≤ write.runs) }
+    {
+        match own {
+            Some(own) => Ok(own.plan(span, mode)?),
+            None => {
+                let nothing = OwnerSpans::new(*self.rows.allocator());
+                Ok(nothing.plan(span, mode)?)
             }
         }
     }
 
     // An empty list: with room for all rows and half as many more, and at least 64, if the owner has
     // no row in the file and the rows may fill all places.
-    fn room_for(&self, file: u16, owner: Owner) -> Result<Vec<OwnerLocks>, AllocError>
+    fn room_for(&self, has_row: bool) -> Result<Vec<OwnerLocks>, AllocError>
         ensures empty { IfOk result (λ room. room.items ≡ []) }
-        ensures room { IfOk result (λ room. HasRoom self.now.rows file owner (vec_capacity room)) }
+        ensures room { IfOk result (λ room. has_row ≡ false → length self.now.rows % 64 ≡ 0 → length self.now.rows + 64 ≤ vec_capacity room) }
     {
         let alloc = *self.rows.allocator();
         let rows = self.rows.len();
-        if rows % PLACES > 0 {
+        if has_row || rows % PLACES > 0 {
             return Ok(Vec::new(alloc));
         }
-        match position(&self.rows, file, owner) {
-            Ok(_) => Ok(Vec::new(alloc)),
-            Err(_) => Vec::with_capacity(alloc, rows + rows / 2 + PLACES),
-        }
+        Vec::with_capacity(alloc, rows + rows / 2 + PLACES)
     }
 
     // Memory for an index, if the table is to keep one and has none, or one that is small for it.
@@ -60,27 +90,6 @@ impl LockTable {
         }
         let index = PageIndex::with_memory(alloc, rows)?;
         Ok(Some(Box::new(alloc, index)?))
-    }
-
-    // The planned write of what the owner holds in the file.
-    fn plan_write(
-        &self,
-        file: u16,
-        owner: Owner,
-        span: Span,
-        mode: Option<Mode>,
-    ) -> Result<SpanEdit<Mode>, AllocError>
-        ensures span { IfOk result (λ write. write.span ≡ span) }
-        ensures mode { IfOk result (λ write. write.value ≡ mode) }
-        ensures runs { IfOk result (λ write. HasRuns self.now.rows file owner write.runs) }
-    {
-        match position(&self.rows, file, owner) {
-            Ok(i) => Ok(self.rows[i].spans.plan(span, mode)?),
-            Err(_) => {
-                let nothing = OwnerSpans::new(*self.rows.allocator());
-                Ok(nothing.plan(span, mode)?)
-            }
-        }
     }
 
     /// The change that `set` (with a mode) or `unlock` (with `None`) would make. It copies nothing.
@@ -103,11 +112,12 @@ impl LockTable {
         ensures empty { IfOk result (λ e. e.room.items ≡ []) }
         ensures of_owner { IfOk result (λ e. e.owner ≡ owner) }
     {
-        if self.regions_with(file, owner, span, mode) > self.limit {
+        let own = self.spans_of(file, owner);
+        if !self.stays_within(own, span, mode) {
             return Err(LockError::NoLocks);
         }
-        let write = self.plan_write(file, owner, span, mode)?;
-        let room = self.room_for(file, owner)?;
+        let write = self.plan_write(own, span, mode)?;
+        let room = self.room_for(own.is_some())?;
         let index = self.index_for()?;
         Ok(LockEdit {
             file,

@@ -1,33 +1,31 @@
 //! How a node takes a message of a token server.
-ghost use Rattle.std.specs.Prelude.{◌≡◌, ◌≢◌, ◌==◌, ◌+◌, true, false, Some, Ok, Err, IfOk, IfErr, IfSome};
+ghost use Rattle.std.specs.Prelude.{◌≡◌, ◌==◌, ◌+◌, false, Some, Ok, IfOk, IfSome};
 ghost use Rattle.model.specs.rule.Limits.{IsNumber};
 ghost use Rattle.token_set.specs.rule.Releases.{gave_up};
-ghost use Rattle.messages.specs.rule.Messages.{is_within, host_of, file_of};
 ghost use Rattle.messages.specs.declared.message.Message.TheVariants.{Report};
 ghost use Rattle.messages.specs.rule.Reports.{runs_of};
 ghost use Rattle.node_core.specs.rule.Answers.{answer_of};
-ghost use Rattle.node_core.specs.rule.Commands.{in_epoch, remembered, in_order, granted, revoked, told, denied, delivered, deliver_rule};
+ghost use Rattle.node_core.specs.rule.Commands.{in_epoch, remembered, in_order, granted, revoked, told, denied};
 ghost use Rattle.node_core.specs.rule.State.{host};
-ghost use Rattle.node_core.specs.rule.Parts.{node_state, after_grant, after_revoke, out_of_order, is_for, IsCallOf};
-ghost use Rattle.node_core.specs.code.Plans.{commanded, drafted, planned, effect_of, CommandFits, DraftFits, PartsFit};
+ghost use Rattle.node_core.specs.rule.Parts.{node_state, after_grant, after_revoke, out_of_order, IsCallOf};
+ghost use Rattle.node_core.specs.code.Plans.{commanded, drafted, effect_of, CommandFits, DraftFits, PartsFit};
 
 use super::Node;
-use crate::change::NodeChange;
 use crate::effect::Effect;
 use crate::file_row::{FileEdit, runs_of};
 use crate::node_edit::{NodeDraft, NodeEdit};
-use crate::numbers::{is_node, is_within};
 use crate::open_call::{OpenCall, refusal_of};
 use crate::token_command::TokenCommand;
 use intervals::span::Span;
 use messages::epoch_number::EpochNumber;
 use messages::file_number::FileNumber;
 use messages::message::Message;
-use messages::refusal::StepError;
 use messages::wanted::Wanted;
 use model::lock_info::LockInfo;
 use std::alloc::{AllocError, Global};
 use token_set::gave_up::GaveUp;
+
+mod deliveries;
 
 impl Node {
     // The change by which the node enters the epoch of a command with that number, at the command's
@@ -237,84 +235,5 @@ impl Node {
             None => Ok(Effect::quiet(NodeEdit::none(alloc)?)),
             Some(call) => self.answer_if(alloc, call.number, refusal_of(call.lock_command, lock)),
         }
-    }
-
-    // Whether the message is for this node, and about a file of the shape.
-    #[tactic(auto, unfolding(crate::specs::rule::Parts::node_state))]
-    fn is_for_me(&self, message: &Message) -> bool
-        ensures { result ≡ is_for (node_state self.now) message.now }
-    {
-        if !is_node(self.node, message.addressee()) {
-            return false;
-        }
-        is_within(self.shape.files(), message.file())
-    }
-
-    // Whether the message is for this incarnation of the node.
-    #[tactic(auto, unfolding(crate::specs::rule::Parts::node_state))]
-    fn is_for_now(&self, message: &Message) -> bool
-        ensures { result ≡ ((host_of message.now).incarnation == (node_state self.now).incarnation) }
-    {
-        message.host().incarnation == self.incarnation
-    }
-
-    // Takes a message that is for this node in this incarnation.
-    fn deliver(&self, alloc: Global, message: &Message) -> Result<Effect, AllocError>
-        requires { is_within (node_state self.now).shape.files (file_of message.now) ≡ true }
-        ensures value { IfOk result (λ effect. delivered (node_state self.now) message.now ≡ effect_of self.now effect) }
-        ensures fits { IfOk result (λ effect. PartsFit self.now effect.edit) }
-    {
-        match message {
-            Message::Grant {
-                file,
-                number,
-                call,
-                mode,
-                span,
-            } => self.grant(
-                alloc,
-                &TokenCommand::new(*file, *number, *call, *mode),
-                *span,
-            ),
-            Message::Revoke {
-                file,
-                number,
-                call,
-                mode,
-                wanted,
-                ..
-            } => self.revoke(
-                alloc,
-                &TokenCommand::new(*file, *number, *call, *mode),
-                *wanted,
-            ),
-            Message::Hello { file, number, .. } => self.tell(alloc, *file, *number),
-            Message::Deny { call, lock, .. } => {
-                let waiting = self.open_call(call.number);
-                self.deny(alloc, waiting, *lock)
-            }
-            _ => Ok(Effect::quiet(NodeEdit::none(alloc)?)),
-        }
-    }
-
-    // Plans the step of a message. A message for another incarnation of the node does nothing.
-    pub(super) fn plan_message(
-        &self,
-        alloc: Global,
-        message: &Message,
-    ) -> Result<NodeChange, StepError>
-        ensures ok { IfOk result (λ change. deliver_rule (node_state self.now) message.now ≡ Ok (planned self.now change.edit, change.outcome)) }
-        ensures err { IfErr result (λ error. error ≢ StepError.NoMemory → deliver_rule (node_state self.now) message.now ≡ Err error) }
-        ensures refused { (r : StepError) → deliver_rule (node_state self.now) message.now ≡ Err r → result ≡ Err r }
-        ensures fits { IfOk result (λ change. PartsFit self.now change.edit) }
-    {
-        if !self.is_for_me(message) {
-            return Err(StepError::Stranger);
-        }
-        if !self.is_for_now(message) {
-            return Ok(Effect::quiet(NodeEdit::none(alloc)?).change(None));
-        }
-        let effect = self.deliver(alloc, message)?;
-        Ok(effect.change(None))
     }
 }

@@ -1,23 +1,25 @@
 -- Indexes from the names of calls to the entries that make them.
 use Rattle.std.specs.Prelude.{◌≡◌, ℕ, zero, suc, if◌then◌else◌, List, [], slice_get, Option, Some, None}
 use Rattle.std.specs.Global.{Vec}
-use Rattle.std.specs.declared.hash.FoldHasher.{FoldHasher}
-use Rattle.std.specs.declared.hash.BuildHasherDefault.{BuildHasherDefault}
-use Rattle.std.specs.HashMap.{HashMap, get}
+use Rattle.std.specs.HashMap.{get}
 use Rattle.std.specs.Option.{option_or, option_map_or}
 use Rattle.model.specs.declared.call.CallId.{CallId}
 use Rattle.model.specs.declared.host.Host.{Host}
-use Rattle.model.specs.rule.Owners.{host_of_call, same_host}
+use Rattle.model.specs.rule.Owners.{host_of_call}
 use Rattle.messages.specs.rule.Messages.{same_call}
 use Rattle.placement.specs.declared.call_index.CallIndex.{CallIndex}
 
--- for each host: the indexes of the entries that make its calls, in the order of their numbers
+-- for each node and incarnation: the indexes of the entries that make its calls, in the order of their numbers
 abbrev pub Rows : Type 0
-Rows = HashMap Host (Vec ℕ) (BuildHasherDefault FoldHasher)
+Rows = Vec (Vec (Vec ℕ))
+
+-- the list at that place, or an empty one
+abbrev pub list_at : {A : Type 0} → List (Vec A) → ℕ → List A
+list_at lists place = option_map_or (λ list. list.items) (slice_get lists place) []
 
 -- the row of the host
 abbrev pub row_of : Rows → Host → List ℕ
-row_of rows host = option_map_or (λ row. row.items) (get same_host rows host) []
+row_of rows host = list_at (list_at rows.items host.node) host.incarnation
 
 -- the entry that a row has for the call of that number; the first number is 1
 abbrev pub in_row : List ℕ → ℕ → Option ℕ

@@ -1,5 +1,5 @@
--- The rest of a run whose entries are taken out one by one.
-use Rattle.std.specs.Prelude.{◌≡◌, ◌≤◌, ◌+◌, ◌-◌, ℕ, zero, suc, ⊤, List, [], ◌∷◌, length, reverse, slice_get, Option, Some, None}
+-- The rest of a run whose entries go one by one.
+use Rattle.std.specs.Prelude.{◌≡◌, ◌≤◌, ◌+◌, ◌-◌, ℕ, zero, suc, ⊤, List, [], ◌∷◌, length, reverse, drop, slice_get, slice_index_or, Option, Some, None}
 use Rattle.model.specs.declared.op.Op.{Op}
 use Rattle.messages.specs.declared.entry.Entry.{Entry}
 use Rattle.cluster_core.specs.rule.World.{journal_limit}
@@ -14,18 +14,22 @@ pub record RestFields : Type 0 where
   pub entries : List Entry
   pub standing : List (Option Item)
 
--- the first entry that is left is taken out, with the item that stands there; or none is left
-abbrev pub Takes : RestFields → Option (Entry × Option Item) → RestFields → Type 0
-Takes old None new = (old.entries ≡ []) × (old.standing ≡ [])
-Takes old (Some first) new = (old.entries ≡ first.0 ∷ new.entries) × (old.standing ≡ first.1 ∷ new.standing)
+-- the first of the entries that are left, or none is left; an item or none stands at each of them
+abbrev pub StartsWith : RestFields → Option Entry → Type 0
+StartsWith rest None = (rest.entries ≡ []) × (rest.standing ≡ [])
+StartsWith rest (Some entry) = (rest.entries ≡ entry ∷ drop 1 rest.entries) × (rest.standing ≡ slice_index_or rest.standing 0 None ∷ drop 1 rest.standing)
 
--- the call of the entry with that index: of entries that were taken out the calls alone are kept
+-- what is left behind the first entry
+abbrev pub without_first : RestFields → RestFields
+without_first rest = record { entries = drop 1 rest.entries; standing = drop 1 rest.standing }
+
+-- the call of the entry with that index: of entries that went the calls alone are kept
 abbrev pub called_at : List (Option (ℕ × Op)) → List Entry → ℕ → Option (ℕ × Op)
 called_at [] rest k = made_by (slice_get rest k)
 called_at (called ∷ made) rest zero = called
 called_at (called ∷ made) rest (suc k) = called_at made rest k
 
--- the item in a slot, from the calls of the entries taken out and the entries that are left
+-- the item in a slot, from the calls of the entries that went and the entries that are left
 abbrev pub stands_from : List (Option (ℕ × Op)) → List Entry → Slot → Option Item
 stands_from made rest Empty = None
 stands_from made rest (Declared at entry) = declared_by at (slice_get rest (entry - length made))
@@ -42,7 +46,7 @@ abbrev pub AreAhead : ℕ → List Slot → Type 0
 AreAhead k [] = ⊤
 AreAhead k (slot ∷ slots) = IsAhead k slot × AreAhead (k + 1) slots
 
--- the entries and slots that are left, the last of them first, after n entries were taken out
+-- the entries and slots that are left, the last of them first, after n entries went
 pub record AreLeft (n : ℕ) (es : List Entry) (slots : List Slot) : Type 0 where
   pub ahead : AreAhead n (reverse slots)
   pub each : length slots ≡ length es

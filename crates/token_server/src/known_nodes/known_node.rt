@@ -184,10 +184,10 @@ impl KnownNode {
     ) -> Result<Option<RowAfter>, AllocError>
         ensures { IfOk result (λ both. row_kept both self.now.row ≡ row_promised commands command.now (row_kept after.now self.now.row)) }
     {
-        let Some(after) = after else {
-            return Ok(None);
-        };
-        Ok(Some(after.promised(&self.row, commands, command)?))
+        match after {
+            Some(after) => after.promised(&self.row, commands, command),
+            None => Ok(None),
+        }
     }
 
     /// Makes `after` the row of the node. Takes no memory.

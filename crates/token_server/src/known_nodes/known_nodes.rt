@@ -1,36 +1,34 @@
 //! The nodes of a cluster, as the token server of a file knows them. A function here that gives a `Result` answers
 //! `AllocError` where a request for memory was refused.
-ghost use Rattle.std.specs.Prelude.{◌≡◌, ◌≢◌, ℕ, ◌+◌, ◌<◌, ◌≤◌, ◌↔◌, true, length, IsTrue, IfOk, IfSome, OnSome, MatchOption, [], ◌∷◌, ◌++◌, ◌==◌, Some, None};
-ghost use Rattle.std.specs.List.{list_any};
+ghost use Rattle.std.specs.Prelude.{◌≡◌, ◌+◌, ◌<◌, ◌≤◌, ◌↔◌, true, length, IsTrue, IfOk, IfSome, OnSome, MatchOption, ◌==◌, Some, None};
 ghost use Rattle.std.specs.Option.{option_copied};
 ghost use Rattle.intervals.specs.rule.Search.{some_passes};
 ghost use Rattle.model.specs.rule.Limits.{IsNumber, most_nodes};
 ghost use Rattle.messages.specs.rule.Epochs.{before_epoch};
 ghost use Rattle.members.specs.rule.Parts.{members_state};
-ghost use Rattle.token_server.specs.rule.Rows.{is_awaited, outstanding_to, row_conflicts, row_of_incarnation};
+ghost use Rattle.token_server.specs.rule.Rows.{is_awaited, outstanding_to, row_of_incarnation};
 ghost use Rattle.token_server.specs.code.Rebuilds.{rebuilt_rows, rebuilt_dead, AreRebuilt};
 ghost use Rattle.token_server.specs.rule.RowParts.{row_seen, row_state, known_node_at, rows_of, deaths_of, SameKnownNodes};
 ghost use Rattle.token_server.specs.code.Changes.{rows_after, deaths_after};
-ghost use Rattle.token_server.specs.code.RowEdits.{seen, row_promised, given_to_known_node, with_given_row, given_rows, given_of, rows_overlaid, deaths_overlaid, deaths_with};
+ghost use Rattle.token_server.specs.code.RowEdits.{seen, rows_overlaid, deaths_overlaid};
 ghost use Rattle.token_server.specs.code.Marks.{NoneExclusive};
 
-use crate::known_nodes::commands::Commands;
 use crate::known_nodes::known_change::Changed;
 use crate::known_nodes::known_node::KnownNode;
 use crate::known_nodes::new_row::NewRow;
 use crate::known_nodes::row_edit::RowEdit;
-use crate::known_nodes::server_command::ServerCommand;
 use crate::known_nodes::token_holder::{RowView, TokenHolder};
-use intervals::span::Span;
 use members::members::Members;
 use messages::epoch_number::EpochNumber;
 use messages::file_number::FileNumber;
 use messages::sends::Sends;
 use messages::shape::Shape;
 use model::host::Host;
-use model::mode::Mode;
 use std::alloc::{AllocError, Global};
 use std::marker::Model;
+
+mod conflicts;
+mod giving;
 
 /// The nodes of a cluster, from node 1 on, as the server of a file knows them.
 #[derive(Drop)]
@@ -213,49 +211,6 @@ impl KnownNodes {
         }
     }
 
-    /// Whether the row of the node (from 1) conflicts, after the edit, with a lock of the mode that another node wants on
-    /// the span.
-    pub fn conflicts(&self, edit: &Option<RowEdit>, node: u8, span: Span, mode: Mode) -> bool
-        requires { 1 ≤ node }
-        ensures { result ≡ row_conflicts (rows_overlaid self.now edit.now node) span mode }
-    {
-        match edit {
-            Some(edit) if edit.given.place == usize::from(node) - 1 => self.conflicts_after(
-                edit, span, mode,
-            ),
-            _ => match self.row(node) {
-                Some(row) => row.token.conflicts(span, mode),
-                None => false,
-            },
-        }
-    }
-
-    // Whether the row that the edit makes conflicts with a lock of the mode that another node wants on the span.
-    fn conflicts_after(&self, edit: &RowEdit, span: Span, mode: Mode) -> bool
-        ensures { result ≡ row_conflicts (rows_overlaid self.now (Some edit.now) (edit.now.given.place + 1)) span mode }
-    {
-        let Some(known_node) = self.nodes.get(edit.given.place) else {
-            return false;
-        };
-        match edit.given.row_over(known_node) {
-            Some(row) => row.token.conflicts(span, mode),
-            None => false,
-        }
-    }
-
-    /// Whether a quick look says that no row has an exclusive byte after the edit. `false` says nothing.
-    pub fn excludes_none(&self, edit: &Option<RowEdit>) -> bool
-        ensures { result ≡ true → NoneExclusive (rows_overlaid self.now edit.now) }
-    {
-        if self.may_exclude {
-            return false;
-        }
-        match edit {
-            Some(edit) => !edit.given.may_exclude(),
-            None => true,
-        }
-    }
-
     /// Whether the node was asked for its token and has not answered, after the edit.
     pub fn is_awaited<'a>(&'a self, edit: &'a Option<RowEdit>, node: u8) -> bool
         ensures { result ≡ is_awaited (rows_overlaid self.now edit.now node) }
@@ -278,60 +233,6 @@ impl KnownNodes {
         false
     }
 
-    /// The new row of the node (from 1) after the edit and then the command: these commands stand in it, and its
-    /// token is as the command promises. There is none where the node has no row after the edit.
-    pub fn given(
-        &self,
-        edit: &Option<RowEdit>,
-        node: u8,
-        commands: Commands,
-        command: &ServerCommand,
-    ) -> Result<NewRow, AllocError>
-        requires { 1 ≤ node }
-        ensures place { IfOk result (λ given. given.place + 1 ≡ node) }
-        ensures row { IfOk result (λ given. given_to_known_node given (known_node_at self.now node) ≡ row_promised commands command.now (rows_overlaid self.now edit.now node)) }
-    {
-        let place = usize::from(node) - 1;
-        let Some(known_node) = self.get(node) else {
-            return Ok(NewRow { place, row: None });
-        };
-        let row = match edit {
-            Some(edit) if edit.given.place == place => {
-                known_node.promised_after(&edit.given.row, commands, command)?
-            }
-            _ => known_node.promised(commands, command)?,
-        };
-        Ok(NewRow { place, row })
-    }
-
-    /// Makes the new rows, and the edit, if there is one. Where several give a node a row, the first of `given`
-    /// counts, and the edit's last. One at an index without a node changes nothing. Takes no memory.
-    pub fn apply(&mut self, edit: Option<RowEdit>, given: Vec<NewRow>)
-        ensures rows { (n : ℕ) → rows_of self.new n ≡ given_rows (given.items ++ given_of edit) self.old n }
-        ensures deaths { deaths_of self.new ≡ deaths_overlaid self.old edit }
-        ensures len { length self.new ≡ length self.old }
-    {
-        let Some(RowEdit { given: last, dead }) = edit else {
-            self.give_each(given);
-            return;
-        };
-        let place = last.place;
-        self.give_last(last, given.as_slice());
-        self.give_each(given);
-        self.bury(place, dead);
-    }
-
-    // Notes for the node at the index, if there is one, that its incarnations up to this one are dead.
-    fn bury(&mut self, place: usize, dead: u16)
-        ensures rows { rows_of self.new ≡ rows_of self.old }
-        ensures deaths { deaths_of self.new ≡ deaths_with place dead self.old }
-        ensures len { length self.new ≡ length self.old }
-    {
-        if place < self.nodes.len() {
-            self.nodes[place].dead = dead;
-        }
-    }
-
     /// The outstanding commands, by rising number of the node.
     pub fn outstanding(&self, alloc: Global) -> Result<Sends, AllocError>
         ensures { IfOk result (λ commands. commands ≡ outstanding_to (rows_of self.now) (length self.now)) }
@@ -343,43 +244,6 @@ impl KnownNodes {
             }
         }
         Ok(commands)
-    }
-
-    // Makes the new row, if there is a node at its index.
-    fn give(&mut self, given: NewRow)
-        ensures rows { rows_of self.new ≡ with_given_row given self.old }
-        ensures others { (m : ℕ) → m ≢ given.place + 1 → known_node_at self.new m ≡ known_node_at self.old m }
-        ensures deaths { deaths_of self.new ≡ deaths_of self.old }
-        ensures len { length self.new ≡ length self.old }
-    {
-        let NewRow { place, row } = given;
-        if place < self.nodes.len() {
-            self.nodes[place].put(row);
-            self.may_exclude = self.nodes[place].notes_exclusive(self.may_exclude);
-        }
-    }
-
-    // Makes the new row `last`, unless one of `others` is for the same node.
-    fn give_last(&mut self, last: NewRow, others: &[NewRow])
-        ensures rows { (n : ℕ) → given_rows others.now self.new n ≡ given_rows (others.now ++ last ∷ []) self.old n }
-        ensures deaths { deaths_of self.new ≡ deaths_of self.old }
-        ensures len { length self.new ≡ length self.old }
-    {
-        if !has_place(others, last.place) {
-            self.give(last);
-        }
-    }
-
-    // Makes the new rows. Of several for one node the first counts.
-    fn give_each(&mut self, given: Vec<NewRow>)
-        ensures rows { (n : ℕ) → rows_of self.new n ≡ given_rows given.items self.old n }
-        ensures deaths { deaths_of self.new ≡ deaths_of self.old }
-        ensures len { length self.new ≡ length self.old }
-    {
-        let mut given = given;
-        while let Some(last) = given.pop() {
-            self.give_last(last, given.as_slice());
-        }
     }
 
     /// A copy: the same is known of each node.
@@ -403,11 +267,4 @@ impl KnownNodes {
     {
         same_each(&self.nodes, &other.nodes)
     }
-}
-
-// Whether one of the new rows is for the node at that index.
-fn has_place(given: &[NewRow], place: usize) -> bool
-    ensures { result ≡ list_any (λ g. g.place == place) given.now }
-{
-    given.iter().any(|given| given.place == place)
 }

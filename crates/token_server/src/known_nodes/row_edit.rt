@@ -5,7 +5,7 @@ ghost use Rattle.model.specs.declared.mode.Mode.TheVariants.{Read};
 ghost use Rattle.token_server.specs.rule.Rows.{row_conflicts};
 ghost use Rattle.token_server.specs.rule.RowParts.{row_seen};
 ghost use Rattle.token_server.specs.declared.known_nodes.token_holder.TokenHolder.{TokenHolder};
-ghost use Rattle.token_server.specs.code.RowEdits.{seen_row, row_with, row_promised};
+ghost use Rattle.token_server.specs.code.RowEdits.{seen_row, row_with, row_kept, row_promised};
 
 use crate::known_nodes::commands::Commands;
 use crate::known_nodes::new_row::NewRow;
@@ -61,7 +61,7 @@ impl RowAfter {
     }
 
     /// The row as it will stand after the command is sent too, where the node has `row` now: `commands` stand in it,
-    /// and its token is as the command promises.
+    /// and its token is as the command promises. There is none where the node has none before the command either.
     ///
     /// # Errors
     /// `AllocError` where a request for memory was refused.
@@ -70,21 +70,21 @@ impl RowAfter {
         row: &Option<TokenHolder>,
         commands: Commands,
         command: &ServerCommand,
-    ) -> Result<RowAfter, AllocError>
-        ensures { IfOk result (λ after. row_with after row.now ≡ row_promised commands command.now (row_with self.now row.now)) }
+    ) -> Result<Option<RowAfter>, AllocError>
+        ensures { IfOk result (λ after. row_kept after row.now ≡ row_promised commands command.now (row_with self.now row.now)) }
     {
         match self {
             RowAfter::Kept { token, .. } => {
-                let token = match row {
-                    Some(row) => command.promised_after(&row.token, token)?,
-                    None => TokenEdit::Same,
+                let Some(row) = row else {
+                    return Ok(None);
                 };
-                Ok(RowAfter::Kept { commands, token })
+                let token = command.promised_after(&row.token, token)?;
+                Ok(Some(RowAfter::Kept { commands, token }))
             }
             RowAfter::New(row) => {
                 let mut token = row.token.copy()?;
                 token.apply(command.promised(&row.token)?);
-                Ok(RowAfter::New(TokenHolder { commands, token }))
+                Ok(Some(RowAfter::New(TokenHolder { commands, token })))
             }
         }
     }

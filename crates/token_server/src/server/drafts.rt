@@ -58,11 +58,12 @@ impl Server {
         Some(sketch.changed.as_ref()?.node)
     }
 
-    // The draft of a step: what the event changes before the server serves.
-    fn draft(&self, sketch: &Sketch, alloc: Global) -> Result<ServerEdit, AllocError>
+    // The draft of a step: what the event changes before the server serves. It is put into its box at once, so that
+    // it isn't moved again.
+    fn draft(&self, sketch: &Sketch, alloc: Global) -> Result<Box<ServerEdit>, AllocError>
         requires in_cluster { IfSome sketch.now.changed (λ c. IsNumber self.now.shape.nodes c.node) }
         requires orderly { IsOrderly (sketched self.now sketch.now) }
-        ensures { IfOk result (λ draft. IsDrafted self.now sketch.now draft) }
+        ensures { IfOk result (λ draft. IsDrafted self.now sketch.now draft.value) }
     {
         let rows = self.known_nodes.edit(alloc, &sketch.changed)?;
         let awaits = self.awaits_after(&rows);
@@ -72,18 +73,21 @@ impl Server {
             ended: sketch.ended,
         };
         let admitted = self.admit(alloc, awaits, &gone, &sketch.moved)?;
-        Ok(ServerEdit {
-            ats: self.awaited(alloc, &rows, &sketch.changed)?,
-            fresh: self.hold(alloc, &rows, admitted.as_slice())?,
+        let ats = self.awaited(alloc, &rows, &sketch.changed)?;
+        let fresh = self.hold(alloc, &rows, admitted.as_slice())?;
+        let draft = ServerEdit {
             rows,
             awaits,
             gone,
+            ats,
             moved: sketch.moved,
+            fresh,
             given: Vec::new(alloc),
             active_spare: None,
             queue_spare: None,
             waiting_spare: None,
-        })
+        };
+        Ok(Box::new(alloc, draft)?)
     }
 
     // Serves the active requests in order. A request is granted, unless another node's row conflicts: then the token
@@ -95,19 +99,13 @@ impl Server {
         ensures fits { IfOk result (λ r. Fits self.now r.0) }
         ensures err { IfErr result (λ e. e ≢ StepError.NoMemory → serve (sketched self.now sketch.now) ≡ Err e) }
     {
-        let draft = self.draft(sketch, alloc)?;
+        let mut draft = self.draft(sketch, alloc)?;
         let (given, commands) = self.serve_draft(&draft, sketch, alloc)?;
         let active_spare = self.active.spare_for(draft.fresh.as_slice())?;
         let queue_spare = self.queue.spare_for(draft.moved.many(&self.waiting))?;
         let waiting_spare = self.waiting.spare_for(draft.moved.put_off())?;
-        let edit = ServerEdit {
-            given,
-            active_spare,
-            queue_spare,
-            waiting_spare,
-            ..draft
-        };
-        Ok((Box::new(alloc, edit)?, commands))
+        draft.complete(given, active_spare, queue_spare, waiting_spare);
+        Ok((draft, commands))
     }
 
     // Serves, and puts these messages before those that serving sends.

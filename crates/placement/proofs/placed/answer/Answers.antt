@@ -21,7 +21,7 @@ returns-in_default-slot_of-clause-standing c = λ all es there long indexed loca
 pub returns-in_default-clause-ahead : goal.returns-in_default-clause-ahead
 returns-in_default-clause-ahead c = λ all.
     let own = c.len-own.ensures ∙ c.args.slots.now.ok.0 in
-    subst (AreAhead 0) (sym c.in_ok-push.ensures.items) (ahead_push 0 c.args.slots.now.items _ all (omega arith))
+    subst (AreAhead 0) (sym c.in_ok-push.ensures.items) (ahead_push 0 c.args.slots.now.items c.slot_of_failure.result all (c.slot_of_failure.ensures.ahead _ (omega arith)))
 
 pub returns-in-Some-slot_of-clause-ahead : goal.returns-in-Some-slot_of-clause-ahead
 returns-in-Some-slot_of-clause-ahead c = λ all.

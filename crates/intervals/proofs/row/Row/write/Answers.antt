@@ -4,10 +4,14 @@ use Rattle.intervals.specs.rule.Bytes.{Range, greatest}
 use Rattle.intervals.specs.code.Runs.{EndsBelow}
 use Rattle.intervals.specs.code.Entries.{BeginAbove}
 use Rattle.intervals.specs.code.Parts.{part_at, runs_below, runs_above}
+use Rattle.intervals.proofs.Runs.{ends_below_le}
 use Rattle.intervals.proofs.Split.{runs-front}
 use Rattle.intervals.proofs.Places.{IsWritten, is_written, length_near, runs_near, ends_near, places_rise}
 use Rattle.intervals.proofs.row.Row.write.Given.{Over}
 use Rattle.intervals.proofs.row.Row.write.Goals as goal
+
+pub place_from-to-requires-clause-ended : goal.place_from-to-requires-clause-ended
+place_from-to-requires-clause-ended g c = ends_below_le (runs_below c.args.self.now c.place-at.result) c.saturating_sub.result (c.span.inside.hi + 1) (omega (arith, c.saturating_sub.ensures, c.span.invariant.0)) c.place-at.ensures.ended
 
 pub write_part-requires-clause-room : goal.write_part-requires-clause-room
 write_part-requires-clause-room g c = omega (arith, length_near c.args.self.now c.place-at.result (omega arith), c.requires.room)
@@ -33,8 +37,8 @@ returns-then-part-clause-runs g c =
     let at = c.place-at.result in
     let lo : c.span.inside.lo ≡ c.args.span.lo = ap (λ (s : Range). s.lo) c.span.view_is in
     let hi : c.span.inside.hi ≡ c.args.span.hi = ap (λ (s : Range). s.hi) c.span.view_is in
-    let same : c.place-to.result ≡ c.place-at.result + 0 = omega (arith, c.if-at-to.true) in
-    (is_written row c.write_part.new.self at 0 c.args.span c.args.value c.write_part.result.0 c.write_part.result.1 (omega (arith, lo, hi, c.span.invariant.0)) (omega arith) c.requires.runs c.requires.bounded (ended_at row at c.saturating_sub.result c.args.span.lo (omega (arith, c.saturating_sub.ensures, lo)) c.place-at.ensures.ended) (above_at row c.place-to.result (at + 0) c.span.inside.hi c.args.span.hi same hi c.place-to.ensures.above) c.write_part.ensures).runs
+    let same : c.place_from-to.result ≡ c.place-at.result + 0 = omega (arith, c.if-at-to.true) in
+    (is_written row c.write_part.new.self at 0 c.args.span c.args.value c.write_part.result.0 c.write_part.result.1 (omega (arith, lo, hi, c.span.invariant.0)) (omega arith) c.requires.runs c.requires.bounded (ended_at row at c.saturating_sub.result c.args.span.lo (omega (arith, c.saturating_sub.ensures, lo)) c.place-at.ensures.ended) (above_at row c.place_from-to.result (at + 0) c.span.inside.hi c.args.span.hi same hi c.place_from-to.ensures.above) c.write_part.ensures).runs
 
 pub returns-then-part-clause-bounded : goal.returns-then-part-clause-bounded
 returns-then-part-clause-bounded g c =
@@ -42,8 +46,8 @@ returns-then-part-clause-bounded g c =
     let at = c.place-at.result in
     let lo : c.span.inside.lo ≡ c.args.span.lo = ap (λ (s : Range). s.lo) c.span.view_is in
     let hi : c.span.inside.hi ≡ c.args.span.hi = ap (λ (s : Range). s.hi) c.span.view_is in
-    let same : c.place-to.result ≡ c.place-at.result + 0 = omega (arith, c.if-at-to.true) in
-    (is_written row c.write_part.new.self at 0 c.args.span c.args.value c.write_part.result.0 c.write_part.result.1 (omega (arith, lo, hi, c.span.invariant.0)) (omega arith) c.requires.runs c.requires.bounded (ended_at row at c.saturating_sub.result c.args.span.lo (omega (arith, c.saturating_sub.ensures, lo)) c.place-at.ensures.ended) (above_at row c.place-to.result (at + 0) c.span.inside.hi c.args.span.hi same hi c.place-to.ensures.above) c.write_part.ensures).bounded
+    let same : c.place_from-to.result ≡ c.place-at.result + 0 = omega (arith, c.if-at-to.true) in
+    (is_written row c.write_part.new.self at 0 c.args.span c.args.value c.write_part.result.0 c.write_part.result.1 (omega (arith, lo, hi, c.span.invariant.0)) (omega arith) c.requires.runs c.requires.bounded (ended_at row at c.saturating_sub.result c.args.span.lo (omega (arith, c.saturating_sub.ensures, lo)) c.place-at.ensures.ended) (above_at row c.place_from-to.result (at + 0) c.span.inside.hi c.args.span.hi same hi c.place_from-to.ensures.above) c.write_part.ensures).bounded
 
 pub returns-then-part-clause-bytes : goal.returns-then-part-clause-bytes
 returns-then-part-clause-bytes g c =
@@ -51,8 +55,8 @@ returns-then-part-clause-bytes g c =
     let at = c.place-at.result in
     let lo : c.span.inside.lo ≡ c.args.span.lo = ap (λ (s : Range). s.lo) c.span.view_is in
     let hi : c.span.inside.hi ≡ c.args.span.hi = ap (λ (s : Range). s.hi) c.span.view_is in
-    let same : c.place-to.result ≡ c.place-at.result + 0 = omega (arith, c.if-at-to.true) in
-    (is_written row c.write_part.new.self at 0 c.args.span c.args.value c.write_part.result.0 c.write_part.result.1 (omega (arith, lo, hi, c.span.invariant.0)) (omega arith) c.requires.runs c.requires.bounded (ended_at row at c.saturating_sub.result c.args.span.lo (omega (arith, c.saturating_sub.ensures, lo)) c.place-at.ensures.ended) (above_at row c.place-to.result (at + 0) c.span.inside.hi c.args.span.hi same hi c.place-to.ensures.above) c.write_part.ensures).bytes
+    let same : c.place_from-to.result ≡ c.place-at.result + 0 = omega (arith, c.if-at-to.true) in
+    (is_written row c.write_part.new.self at 0 c.args.span c.args.value c.write_part.result.0 c.write_part.result.1 (omega (arith, lo, hi, c.span.invariant.0)) (omega arith) c.requires.runs c.requires.bounded (ended_at row at c.saturating_sub.result c.args.span.lo (omega (arith, c.saturating_sub.ensures, lo)) c.place-at.ensures.ended) (above_at row c.place_from-to.result (at + 0) c.span.inside.hi c.args.span.hi same hi c.place_from-to.ensures.above) c.write_part.ensures).bytes
 
 pub returns-then-part-clause-had : goal.returns-then-part-clause-had
 returns-then-part-clause-had g c =
@@ -60,8 +64,8 @@ returns-then-part-clause-had g c =
     let at = c.place-at.result in
     let lo : c.span.inside.lo ≡ c.args.span.lo = ap (λ (s : Range). s.lo) c.span.view_is in
     let hi : c.span.inside.hi ≡ c.args.span.hi = ap (λ (s : Range). s.hi) c.span.view_is in
-    let same : c.place-to.result ≡ c.place-at.result + 0 = omega (arith, c.if-at-to.true) in
-    (is_written row c.write_part.new.self at 0 c.args.span c.args.value c.write_part.result.0 c.write_part.result.1 (omega (arith, lo, hi, c.span.invariant.0)) (omega arith) c.requires.runs c.requires.bounded (ended_at row at c.saturating_sub.result c.args.span.lo (omega (arith, c.saturating_sub.ensures, lo)) c.place-at.ensures.ended) (above_at row c.place-to.result (at + 0) c.span.inside.hi c.args.span.hi same hi c.place-to.ensures.above) c.write_part.ensures).few
+    let same : c.place_from-to.result ≡ c.place-at.result + 0 = omega (arith, c.if-at-to.true) in
+    (is_written row c.write_part.new.self at 0 c.args.span c.args.value c.write_part.result.0 c.write_part.result.1 (omega (arith, lo, hi, c.span.invariant.0)) (omega arith) c.requires.runs c.requires.bounded (ended_at row at c.saturating_sub.result c.args.span.lo (omega (arith, c.saturating_sub.ensures, lo)) c.place-at.ensures.ended) (above_at row c.place_from-to.result (at + 0) c.span.inside.hi c.args.span.hi same hi c.place_from-to.ensures.above) c.write_part.ensures).few
 
 pub returns-then-part-clause-count : goal.returns-then-part-clause-count
 returns-then-part-clause-count g c =
@@ -69,35 +73,35 @@ returns-then-part-clause-count g c =
     let at = c.place-at.result in
     let lo : c.span.inside.lo ≡ c.args.span.lo = ap (λ (s : Range). s.lo) c.span.view_is in
     let hi : c.span.inside.hi ≡ c.args.span.hi = ap (λ (s : Range). s.hi) c.span.view_is in
-    let same : c.place-to.result ≡ c.place-at.result + 0 = omega (arith, c.if-at-to.true) in
-    (is_written row c.write_part.new.self at 0 c.args.span c.args.value c.write_part.result.0 c.write_part.result.1 (omega (arith, lo, hi, c.span.invariant.0)) (omega arith) c.requires.runs c.requires.bounded (ended_at row at c.saturating_sub.result c.args.span.lo (omega (arith, c.saturating_sub.ensures, lo)) c.place-at.ensures.ended) (above_at row c.place-to.result (at + 0) c.span.inside.hi c.args.span.hi same hi c.place-to.ensures.above) c.write_part.ensures).count
+    let same : c.place_from-to.result ≡ c.place-at.result + 0 = omega (arith, c.if-at-to.true) in
+    (is_written row c.write_part.new.self at 0 c.args.span c.args.value c.write_part.result.0 c.write_part.result.1 (omega (arith, lo, hi, c.span.invariant.0)) (omega arith) c.requires.runs c.requires.bounded (ended_at row at c.saturating_sub.result c.args.span.lo (omega (arith, c.saturating_sub.ensures, lo)) c.place-at.ensures.ended) (above_at row c.place_from-to.result (at + 0) c.span.inside.hi c.args.span.hi same hi c.place_from-to.ensures.above) c.write_part.ensures).count
 
 pub overflow_sub-to : goal.overflow_sub-to
-overflow_sub-to g c = places_rise c.args.self.now c.place-at.result c.place-to.result c.saturating_sub.result (c.span.inside.hi + 1) (omega (arith, c.saturating_sub.ensures, c.span.invariant.0)) c.requires.some (omega arith) c.place-at.ensures.begins c.place-to.ensures.above
+overflow_sub-to g c = places_rise c.args.self.now c.place-at.result c.place_from-to.result c.saturating_sub.result (c.span.inside.hi + 1) (omega (arith, c.saturating_sub.ensures, c.span.invariant.0)) c.requires.some (omega arith) c.place-at.ensures.begins c.place_from-to.ensures.above
 
 pub write_parts-requires-clause-ended : goal.write_parts-requires-clause-ended
 write_parts-requires-clause-ended g c =
     let row = c.args.self.now in
     let at = c.place-at.result in
     let hi : c.span.inside.hi ≡ c.args.span.hi = ap (λ (s : Range). s.hi) c.span.view_is in
-    let rise : at ≤ c.place-to.result = places_rise row at c.place-to.result c.saturating_sub.result (c.span.inside.hi + 1) (omega (arith, c.saturating_sub.ensures, c.span.invariant.0)) c.requires.some (omega arith) c.place-at.ensures.begins c.place-to.ensures.above in
-    let same : c.place-to.result ≡ at + (c.place-to.result - at) = omega (arith, rise) in
-    subst (λ n. EndsBelow (runs_below row (at + (c.place-to.result - at))) (n + 1)) hi (subst (λ n. EndsBelow (runs_below row n) (c.span.inside.hi + 1)) same c.place-to.ensures.ended)
+    let rise : at ≤ c.place_from-to.result = places_rise row at c.place_from-to.result c.saturating_sub.result (c.span.inside.hi + 1) (omega (arith, c.saturating_sub.ensures, c.span.invariant.0)) c.requires.some (omega arith) c.place-at.ensures.begins c.place_from-to.ensures.above in
+    let same : c.place_from-to.result ≡ at + (c.place_from-to.result - at) = omega (arith, rise) in
+    subst (λ n. EndsBelow (runs_below row (at + (c.place_from-to.result - at))) (n + 1)) hi (subst (λ n. EndsBelow (runs_below row n) (c.span.inside.hi + 1)) same c.place_from-to.ensures.ended)
 
 -- what a write in several parts leaves
 several : (g : Over) (c : goal.After-write_parts g) → IsWritten c.args.self.now c.write_parts.new.self c.args.span c.args.value c.write_parts.result.0 c.write_parts.result.1
 several g c =
     let row = c.args.self.now in
     let at = c.place-at.result in
-    let more = c.place-to.result - at in
+    let more = c.place_from-to.result - at in
     let lo : c.span.inside.lo ≡ c.args.span.lo = ap (λ (s : Range). s.lo) c.span.view_is in
     let hi : c.span.inside.hi ≡ c.args.span.hi = ap (λ (s : Range). s.hi) c.span.view_is in
     let first : c.saturating_sub.result ≡ pred c.args.span.lo = omega (arith, c.saturating_sub.ensures, lo) in
-    let rise : at ≤ c.place-to.result = places_rise row at c.place-to.result c.saturating_sub.result (c.span.inside.hi + 1) (omega (arith, c.saturating_sub.ensures, c.span.invariant.0)) c.requires.some (omega arith) c.place-at.ensures.begins c.place-to.ensures.above in
-    let same : c.place-to.result ≡ at + more = omega (arith, rise) in
+    let rise : at ≤ c.place_from-to.result = places_rise row at c.place_from-to.result c.saturating_sub.result (c.span.inside.hi + 1) (omega (arith, c.saturating_sub.ensures, c.span.invariant.0)) c.requires.some (omega arith) c.place-at.ensures.begins c.place_from-to.ensures.above in
+    let same : c.place_from-to.result ≡ at + more = omega (arith, rise) in
     let ended : EndsBelow (runs_below row at) (pred c.args.span.lo) = subst (λ n. EndsBelow (runs_below row at) n) first c.place-at.ensures.ended in
-    let above : BeginAbove (runs_above row (at + more)) (c.args.span.hi + 1) = subst (λ n. BeginAbove (runs_above row (at + more)) (n + 1)) hi (subst (λ n. BeginAbove (runs_above row n) (c.span.inside.hi + 1)) same c.place-to.ensures.above) in
-    is_written row c.write_parts.new.self at more c.args.span c.args.value c.write_parts.result.0 c.write_parts.result.1 (omega (arith, lo, hi, c.span.invariant.0)) (omega (arith, rise, c.place-to.ensures.within)) c.requires.runs c.requires.bounded ended above c.write_parts.ensures
+    let above : BeginAbove (runs_above row (at + more)) (c.args.span.hi + 1) = subst (λ n. BeginAbove (runs_above row (at + more)) (n + 1)) hi (subst (λ n. BeginAbove (runs_above row n) (c.span.inside.hi + 1)) same c.place_from-to.ensures.above) in
+    is_written row c.write_parts.new.self at more c.args.span c.args.value c.write_parts.result.0 c.write_parts.result.1 (omega (arith, lo, hi, c.span.invariant.0)) (omega (arith, rise, c.place_from-to.ensures.within)) c.requires.runs c.requires.bounded ended above c.write_parts.ensures
 
 pub returns-clause-runs : goal.returns-clause-runs
 returns-clause-runs g c = (several g c).runs

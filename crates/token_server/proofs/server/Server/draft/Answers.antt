@@ -15,7 +15,7 @@ use Rattle.token_server.specs.code.Ready.{AreDistinct, IsReady}
 use Rattle.token_server.specs.code.Changes.{rows_after, deaths_after}
 use Rattle.token_server.specs.code.RowEdits.{rows_overlaid, deaths_overlaid}
 use Rattle.token_server.specs.code.Sketches.{without, still_active, queue_moved, waiting_moved, sketched}
-use Rattle.token_server.specs.code.Edits.{reached}
+use Rattle.token_server.specs.code.Edits.{reached, IsDrafted}
 use Rattle.token_server.proofs.AskedLaws.{none-after}
 use Rattle.token_server.proofs.ReadyLaws.{distinct-queue, kept-all}
 use Rattle.token_server.proofs.server.Server.draft.Goals as goal
@@ -51,10 +51,10 @@ returns c =
     let rows = subst (λ (x : ServerParts). rows_overlaid x.known_nodes c.in_ok-rows.rows ≡ rows_after k.changed (rows_of x.known_nodes)) c.self.view_is c.in_ok-rows.ensures.rows in
     let served : still_active k.ended (without d (requests_of p.active.held)) ≡ (sketched p k).active = ap (still_active k.ended) e.active in
     let queued : queue_moved k.moved (without d p.queue.requests) (without d p.waiting.requests) ≡ (sketched p k).queue = (λ i. queue_moved k.moved (e.queue i) (e.waiting i)) in
-    let fresh : requests_of c.in_ok-hold.field-0.items ≡ c.in_ok-admitted.admitted.items = c.in_ok-hold.ensures.requests ∙ c.as_slice.ensures.value in
+    let fresh : requests_of c.in_ok-fresh.fresh.items ≡ c.in_ok-admitted.admitted.items = c.in_ok-fresh.ensures.requests ∙ c.as_slice.ensures.value in
     let same : c.awaits_after-awaits.result ≡ awaits (sketched p k) = c.awaits_after-awaits.ensures ∙ ap (λ (f : ℕ → Option Row). some_passes (λ n. is_awaited (f n)) 1 p.shape.nodes) rows in
     let W : ActiveRequest → Type 0 = λ h. obstacle (reached p c.in_ok-rows.rows) h.request ≡ h.at in
-    record {
+    subst (IsDrafted p k) (sym c.in_ok-new.ensures.ok) (record {
       before = subst (λ (x : ServerParts). IsReady (server_state x) x.active.held) c.self.view_is c.self.invariant.ready;
       orderly = c.requires.orderly;
       rows = rows;
@@ -64,8 +64,8 @@ returns c =
         queued = queued;
         put_off = ap (waiting_moved k.moved) e.waiting;
         comes = λ told. subst (λ (xs : List TokenRequest). IsAdmitted (sketched p k).active (sketched p k).queue xs) (sym fresh) (subst (λ (xs : List TokenRequest). IsAdmitted xs (sketched p k).queue c.in_ok-admitted.admitted.items) served (subst (λ (xs : List TokenRequest). IsAdmitted (still_active k.ended (without d (requests_of p.active.held))) xs c.in_ok-admitted.admitted.items) queued (c.in_ok-admitted.ensures.comes (same ∙ told))));
-        rests = λ awaited. none-of c.in_ok-hold.field-0.items (fresh ∙ c.in_ok-admitted.ensures.rests (same ∙ awaited));
-        waits = All-append W _ c.in_ok-hold.field-0.items (kept-all W k.ended d (waiting_for c.in_ok-awaited.field-0.items p.active.held) c.in_ok-awaited.ensures) c.in_ok-hold.ensures.waits;
+        rests = λ awaited. none-of c.in_ok-fresh.fresh.items (fresh ∙ c.in_ok-admitted.ensures.rests (same ∙ awaited));
+        waits = All-append W _ c.in_ok-fresh.fresh.items (kept-all W k.ended d (waiting_for c.in_ok-ats.ats.items p.active.held) c.in_ok-ats.ensures) c.in_ok-fresh.ensures.waits;
       };
       awaited = c.awaits_after-awaits.ensures;
-    }
+    })

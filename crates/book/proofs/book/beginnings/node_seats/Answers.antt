@@ -1,6 +1,6 @@
 use Rattle.std.proofs.Common.{◌<◌, arith}
 use Rattle.book.proofs.Seats.{node_more}
-use Rattle.book.proofs.book.node_seats.Goals as goal
+use Rattle.book.proofs.book.beginnings.node_seats.Goals as goal
 
 pub loop-index-preserved : goal.loop-index-preserved
 loop-index-preserved g c =

@@ -1,9 +1,9 @@
-use Rattle.std.proofs.Common.{◌≡◌, ◌+◌, length}
+use Rattle.std.proofs.Common.{◌≡◌, length}
 use Rattle.book.specs.code.Seats.{AreFirst}
-use Rattle.book.proofs.book.push_servers.Given as goal
+use Rattle.book.proofs.book.beginnings.node_seats.Given as goal
 
 abbrev pub invariant-loop-index : goal.invariant-loop-index
 invariant-loop-index g l = record {
-  count : length l.seats.items ≡ l.shape.nodes + l.index;
+  count : length l.seats.items ≡ l.index;
   first : AreFirst l.shape l.seats.items;
 }

@@ -1,5 +1,5 @@
 use Rattle.book.proofs.Seats.{server_more}
-use Rattle.book.proofs.book.push_servers.Goals as goal
+use Rattle.book.proofs.book.beginnings.push_servers.Goals as goal
 
 pub loop-index-preserved : goal.loop-index-preserved
 loop-index-preserved g c =
