@@ -7,7 +7,7 @@ use Rattle.lock_table.specs.code.Pages.{flag_of}
 use Rattle.lock_table.specs.code.Rows.{mark_of, AreRows}
 use Rattle.lock_table.proofs.FileRows.{marks_rise, rows-drop}
 use Rattle.lock_table.proofs.NearRows.{flags_passed}
-use Rattle.lock_table.proofs.lock_table.searches.next_near.Goals as goal
+use Rattle.lock_table.proofs.place.next_near.Goals as goal
 
 pub returns-clause-within : goal.returns-clause-within
 returns-clause-within c =
