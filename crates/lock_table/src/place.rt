@@ -44,7 +44,10 @@ pub(crate) fn position(blocks: &[Block], file: u16, owner: Owner) -> Result<Plac
         return Err(Place { block, row: 0 });
     }
     let mark = mark_of(file, owner);
-    match blocks[block].rows().binary_search_by(|row| row.cmp_place(mark, owner)) {
+    match blocks[block]
+        .rows()
+        .binary_search_by(|row| row.cmp_place(mark, owner))
+    {
         Ok(row) => Ok(Place { block, row }),
         Err(row) => Err(Place { block, row }),
     }

@@ -78,11 +78,7 @@ fn free_in(
 }
 
 // Adds the regions of the file.
-fn push_rows(
-    rows: &[OwnerLocks],
-    file: u16,
-    locks: &mut Vec<LockInfo>,
-) -> Result<(), AllocError>
+fn push_rows(rows: &[OwnerLocks], file: u16, locks: &mut Vec<LockInfo>) -> Result<(), AllocError>
     requires { AreRows rows.now }
     ensures { OnOk result ((more : List SomeLock) × (locks.new.items ≡ locks.old.items ++ more) × ListsRegions (rows_held rows.now file) more) }
 {

@@ -63,7 +63,12 @@ impl LockTable {
         if spans.is_empty() {
             return;
         }
-        insert_row(&mut self.blocks, place, OwnerLocks { file, owner, spans }, room);
+        insert_row(
+            &mut self.blocks,
+            place,
+            OwnerLocks { file, owner, spans },
+            room,
+        );
     }
 
     /// Makes a planned change: only the regions of the owner from the span on are rewritten. Takes
