@@ -5,9 +5,9 @@ use Rattle.intervals.proofs.Runs.{ends_below_le, put_none}
 use Rattle.intervals.proofs.Split.{at-back}
 use Rattle.intervals.proofs.StartsWith.{put-in, put-below}
 use Rattle.intervals.proofs.Written.{ends_below-rest}
-use Rattle.intervals.proofs.byte_run.splice.Given.{Over}
-use Rattle.intervals.proofs.byte_run.splice.Goals as goal
-use Rattle.intervals.proofs.byte_run.splice.Goals.{in-Some, in_default}
+use Rattle.intervals.proofs.byte_run.writes.splice.Given.{Over}
+use Rattle.intervals.proofs.byte_run.writes.splice.Goals as goal
+use Rattle.intervals.proofs.byte_run.writes.splice.Goals.{in-Some, in_default}
 
 pub append_above-requires-clause-below : goal.append_above-requires-clause-below
 append_above-requires-clause-below g c =

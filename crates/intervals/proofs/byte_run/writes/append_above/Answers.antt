@@ -5,8 +5,8 @@ use Rattle.intervals.specs.code.Runs.{value_at, AreRuns, EndsBelow, EndsFrom}
 use Rattle.intervals.proofs.Runs.{ends_below_le}
 use Rattle.intervals.proofs.Written.{ends_below-both}
 use Rattle.intervals.proofs.Pieces.{none_left, moved-runs, moved-inside, moved-under}
-use Rattle.intervals.proofs.byte_run.append_above.Given.{Over}
-use Rattle.intervals.proofs.byte_run.append_above.Goals as goal
+use Rattle.intervals.proofs.byte_run.writes.append_above.Given.{Over}
+use Rattle.intervals.proofs.byte_run.writes.append_above.Goals as goal
 
 pub append-requires-clause-below : goal.append-requires-clause-below
 append-requires-clause-below g c = ends_below_le _ c.args.from _ (omega (arith, c.max.ensures)) c.requires.below

@@ -5,7 +5,7 @@ use Rattle.intervals.specs.rule.Bytes.{put}
 use Rattle.intervals.specs.code.Runs.{value_at, AreRuns, EndsFrom}
 use Rattle.intervals.proofs.Split.{ends-before}
 use Rattle.intervals.proofs.Pieces.{cut_below, none_cut}
-use Rattle.intervals.proofs.byte_run.append_below.Goals as goal
+use Rattle.intervals.proofs.byte_run.writes.append_below.Goals as goal
 
 pub append_all-requires : goal.append_all-requires
 append_all-requires g c =

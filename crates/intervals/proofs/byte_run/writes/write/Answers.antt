@@ -5,7 +5,7 @@ use Rattle.intervals.specs.rule.Bytes.{greatest, put}
 use Rattle.intervals.specs.code.Runs.{value_at, AreRuns, EndsBelow}
 use Rattle.intervals.proofs.Written.{ends_below-both, ends_below-front, ends_below-rest, runs-written, at-written}
 use Rattle.intervals.proofs.StartsWith.{put-pieces}
-use Rattle.intervals.proofs.byte_run.write.Goals as goal
+use Rattle.intervals.proofs.byte_run.writes.write.Goals as goal
 
 pub splice-requires-clause-room : goal.splice-requires-clause-room
 splice-requires-clause-room g c =

@@ -2,9 +2,9 @@ use Rattle.std.proofs.Common.{◌≡◌, ◌<◌, ◌++◌, [], ◌∷◌, inl, 
 use Rattle.std.proofs.lemmas.Bool.{cases_lt, false≢true, and_from, and_left, and_right}
 use Rattle.intervals.proofs.Runs.{last_below, join_last, join_apart, join_first, set_self, joined}
 use Rattle.intervals.proofs.Join.{join}
-use Rattle.intervals.proofs.byte_run.append.Given.{Over}
-use Rattle.intervals.proofs.byte_run.append.Goals as goal
-use Rattle.intervals.proofs.byte_run.append.Goals.{in-Some+else-last-run, else-last-run-via-then-last-run+else-eq, else-last-run-via-else-last-run, in_default}
+use Rattle.intervals.proofs.byte_run.writes.append.Given.{Over}
+use Rattle.intervals.proofs.byte_run.writes.append.Goals as goal
+use Rattle.intervals.proofs.byte_run.writes.append.Goals.{in-Some+else-last-run, else-last-run-via-then-last-run+else-eq, else-last-run-via-else-last-run, in_default}
 
 -- the last run ends before the new one begins
 pub overflow_add-last : goal.overflow_add-last
