@@ -4,7 +4,8 @@ ghost use Rattle.std.specs.Vec.{vec_len, vec_capacity};
 ghost use Rattle.intervals.specs.rule.Bytes.{greatest, put};
 ghost use Rattle.intervals.specs.code.Runs.{begins_at, value_at, AreRuns, EndsBelow};
 
-use crate::byte_run::{ByteRun, append_all, write};
+use crate::byte_run::ByteRun;
+use crate::byte_run::writes::{append_all, write};
 use crate::span::Span;
 use crate::span_map::Exact;
 use std::alloc::{AllocError, Global};

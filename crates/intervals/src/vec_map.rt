@@ -6,8 +6,9 @@ ghost use Rattle.intervals.specs.rule.Bytes.{greatest, nothing, number_of_runs, 
 ghost use Rattle.intervals.specs.code.Runs.{bytes_of, value_at};
 ghost use Rattle.intervals.specs.code.Edits.{written};
 
+use crate::byte_run::writes::write;
 use crate::byte_run::{
-    ByteRun, begin_after, begin_below, highest_free, is_barred, lowest_free, split_before, write,
+    ByteRun, begin_after, begin_below, highest_free, is_barred, lowest_free, split_before,
 };
 use crate::span::Span;
 use crate::span_edit::SpanEdit;

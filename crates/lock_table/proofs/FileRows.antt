@@ -61,7 +61,7 @@ rows-drop [] (suc n) rows = tt
 rows-drop (s ∷ rest) zero rows = rows
 rows-drop (s ∷ rest) (suc n) rows = rows-drop rest n rows.2
 
-held_other : (r : OwnerLocks) (rest : List OwnerLocks) (f : ℕ) (o : Owner) → (r.file ≡ f → ⊥) → rows_held (r ∷ rest) f o ≡ rows_held rest f o
+pub held_other : (r : OwnerLocks) (rest : List OwnerLocks) (f : ℕ) (o : Owner) → (r.file ≡ f → ⊥) → rows_held (r ∷ rest) f o ≡ rows_held rest f o
 unfolding rows_held
 held_other r rest f o differ = rw (and_left (eqb r.file f) (same_owner r.owner o) (ne_eqb r.file f differ)) refl
 

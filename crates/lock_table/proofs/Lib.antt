@@ -10,5 +10,8 @@ pub mod ListingParts
 pub mod FlagLemmas
 pub mod PageLemmas
 pub mod NearRows
-pub mod Places
+pub mod BlockRows
+pub mod BlockSearch
+pub mod BlockJoins
+pub mod BlockWrites
 pub mod Writes

@@ -10,9 +10,8 @@ use Rattle.model.specs.declared.lock_info.LockInfo.{LockInfo}
 use Rattle.model.specs.rule.Locks.{IsRegion}
 use Rattle.lock_table.specs.declared.owner_locks.OwnerLocks.{OwnerLocks}
 use Rattle.lock_table.specs.declared.owner_set.OwnerSet.{OwnerSet}
-use Rattle.lock_table.specs.declared.page_index.PageIndex.{PageIndex}
-use Rattle.lock_table.specs.code.Blockers.{IsLowestBut, HasInWay}
-use Rattle.lock_table.specs.code.Pages.{Has, MayHold, Covers, flag_of}
+use Rattle.lock_table.specs.code.Blockers.{IsLowestBut, HasInWay, AreNear}
+use Rattle.lock_table.specs.code.Pages.{Has, flag_of}
 use Rattle.lock_table.specs.code.Rows.{rows_held, mark_of, AreRows, ArePassed}
 use Rattle.lock_table.proofs.BlockerLemmas.{row_passed, rows_step, lowest_past}
 use Rattle.lock_table.proofs.FileRows.{marks_rise, some_row}
@@ -34,7 +33,7 @@ flags_passed l near from next count first rows within is_first none least point 
     let flags = between first.file row.file (flag_of first.owner) (flag_of row.owner) next (omega arith) least above below in
     none row.owner flags.0 flags.1 has
 
-module _ (x : PageIndex) (near : OwnerSet) (all part : List OwnerLocks) (file : ℕ) (s : Range) (covers : Covers x (rows_held all)) (nearby : (o : Owner) (b : ℕ) → s.lo ≤ b → b ≤ s.hi → MayHold x file o b → Has near o) (same : rows_held part file ≡ rows_held all file) (order : AreRows part) (files : All (λ (t : OwnerLocks). t.file ≡ file) part) where
+module _ (near : OwnerSet) (part : List OwnerLocks) (file : ℕ) (s : Range) (nearby : AreNear (rows_held part file) near s) (order : AreRows part) (files : All (λ (t : OwnerLocks). t.file ≡ file) part) where
   -- rows that are passed don't change which lock is the lowest in the way
   lowest_more : (out : Option Owner) (mode : Mode) (lowest : Option LockInfo) (i n : ℕ) → i + n ≤ length part → ArePassed part near i (i + n) → IsLowestBut (rows_held (take i part) file) out s mode lowest → IsLowestBut (rows_held (take (i + n) part) file) out s mode lowest
   lowest_more out mode lowest i zero le passed h = let here : i ≡ i + 0 = omega arith in subst (λ (k : ℕ). IsLowestBut (rows_held (take k part) file) out s mode lowest) here h
@@ -45,7 +44,7 @@ module _ (x : PageIndex) (near : OwnerSet) (all part : List OwnerLocks) (file : 
       let is : r ≡ get_or part (i + n) r = get_or_default part (i + n) d r lt in
       let before = lowest_more out mode lowest i n (omega arith) (λ k row from below. passed k row from (omega arith)) h in
       let away = passed (i + n) r (omega arith) (omega arith) is in
-      let clear = row_passed r out s mode (λ b m lo hi at barred. none_near x near all part file (i + n) r s covers nearby same order files lt is away b m lo hi at) in
+      let clear = row_passed r out s mode (λ b m lo hi at barred. none_near near part file (i + n) r s nearby order files lt is away b m lo hi at) in
       let after = lowest_past _ _ _ (rows_step part (i + n) r file order files lt is) out s mode lowest before clear in
       let here : i + n + 1 ≡ i + suc n = omega arith in
       subst (λ (k : ℕ). IsLowestBut (rows_held (take k part) file) out s mode lowest) here after
@@ -64,7 +63,7 @@ module _ (x : PageIndex) (near : OwnerSet) (all part : List OwnerLocks) (file : 
       let r = get_or part (i + n) d in
       let is : r ≡ get_or part (i + n) r = get_or_default part (i + n) d r lt in
       let before = around_more mode required span i n (omega arith) (λ k row from below. passed k row from (omega arith)) h in
-      let away = none_near x near all part file (i + n) r s covers nearby same order files lt is (passed (i + n) r (omega arith) (omega arith) is) in
+      let away = none_near near part file (i + n) r s nearby order files lt is (passed (i + n) r (omega arith) (omega arith) is) in
       let after = around-skip _ _ r (rows_step part (i + n) r file order files lt is) mode required s span before away in
       let here : i + n + 1 ≡ i + suc n = omega arith in
       subst (λ (k : ℕ). IsLargest (HasInWay (IsRegion (rows_held (take k part) file)) mode) required s span) here after

@@ -19,6 +19,7 @@ use Rattle.lock_table.proofs.Orders.{place_itself}
 use Rattle.lock_table.proofs.SameRows.{drop_read}
 use Rattle.lock_table.specs.declared.owner_set.OwnerSet.{OwnerSet}
 use Rattle.lock_table.specs.code.Pages.{Has, MayHold, Covers, slot_of}
+use Rattle.lock_table.specs.code.Blockers.{AreNear}
 
 -- a byte that the remaining rows hold is held by the first of them or by the other ones
 pub row-step : (rows : List OwnerLocks) (i : ℕ) (r : OwnerLocks) (f : ℕ) (o : Owner) (b : ℕ) (m : Mode) → i < length rows → r ≡ get_or rows i r → rows_held (drop i rows) f o b ≡ Some m → ((r.file ≡ f) × (r.owner ≡ o) × (value_at r.spans b ≡ Some m)) ⊎ (rows_held (drop (i + 1) rows) f o b ≡ Some m)
@@ -77,12 +78,15 @@ pub row_held : (l : List OwnerLocks) (i : ℕ) (r : OwnerLocks) → AreRows l �
 row_held l i r rows lt is = held-at l i r.file r.owner r (row_at_from l i r.file r.owner rows lt (λ d. rw (get_or_default l i d r lt, ← is) (place_itself r.file r.owner))) is
 
 -- an owner that isn't near holds no byte of the span
-pub none_near : (x : PageIndex) (near : OwnerSet) (rows part : List OwnerLocks) (file i : ℕ) (r : OwnerLocks) (s : Range) → Covers x (rows_held rows) → ((o : Owner) (b : ℕ) → s.lo ≤ b → b ≤ s.hi → MayHold x file o b → Has near o) → rows_held part file ≡ rows_held rows file → AreRows part → All (λ (t : OwnerLocks). t.file ≡ file) part → i < length part → r ≡ get_or part i r → (Has near r.owner → ⊥) → (b : ℕ) (m : Mode) → s.lo ≤ b → b ≤ s.hi → value_at r.spans b ≡ Some m → ⊥
-none_near x near rows part file i r s covers nearby same order files lt is away b m low high at =
+pub none_near : (near : OwnerSet) (part : List OwnerLocks) (file i : ℕ) (r : OwnerLocks) (s : Range) → AreNear (rows_held part file) near s → AreRows part → All (λ (t : OwnerLocks). t.file ≡ file) part → i < length part → r ≡ get_or part i r → (Has near r.owner → ⊥) → (b : ℕ) (m : Mode) → s.lo ≤ b → b ≤ s.hi → value_at r.spans b ≡ Some m → ⊥
+none_near near part file i r s nearby order files lt is away b m low high at =
     let of_file : r.file ≡ file = rw (← is) at (files i r lt) in
     let own : rows_held part file r.owner ≡ value_at r.spans = rw (← of_file) (row_held part i r order lt is) in
-    let here : rows_held rows file r.owner b ≡ Some m = sym (ap (λ (h : FileLocks). h r.owner b) same) ∙ ap (λ (h : ℕ → Option Mode). h b) own ∙ at in
-    away (nearby r.owner b low high (covers file r.owner b m here))
+    away (nearby r.owner b m low high (ap (λ (g : ℕ → Option Mode). g b) own ∙ at))
+
+-- owners that hold a byte of the span are near, as the index says
+pub near_from : (x : PageIndex) (near : OwnerSet) (h : Locks) (g : FileLocks) (file : ℕ) (s : Range) → Covers x h → ((o : Owner) (b : ℕ) → s.lo ≤ b → b ≤ s.hi → MayHold x file o b → Has near o) → ((o : Owner) (b : ℕ) (m : Mode) → g o b ≡ Some m → h file o b ≡ Some m) → AreNear g near s
+near_from x near h g file s covers nearby among o b m low high at = nearby o b low high (covers file o b m (among o b m at))
 
 -- more owners of long runs leave the others noted
 pub may-long : (x : PageIndex) (long : OwnerSet) → ((o : Owner) → Has x.long o → Has long o) → (f : ℕ) (o : Owner) (b : ℕ) → MayHold x f o b → MayHold (record x { long = long }) f o b

@@ -74,24 +74,34 @@ held_same (r ∷ a) (s ∷ b) p q e = elim (cases_ordering (row_cmp r s.file s.o
           sym (held_past r a f o differ) ∙ e f o ∙ held_past s b f o other
     ]
 
--- two lists of rows are equal one by one exactly where their remaining rows are
-pub record Left (a b : List OwnerLocks) (i : ℕ) : Type 0 where
-  pub to : AllZip IsSameRow (drop i a) (drop i b) → AllZip IsSameRow a b
-  pub from : AllZip IsSameRow a b → AllZip IsSameRow (drop i a) (drop i b)
+-- two lists of rows are equal one by one exactly where these parts of them are
+pub record Left (a b xs ys : List OwnerLocks) : Type 0 where
+  pub to : AllZip IsSameRow xs ys → AllZip IsSameRow a b
+  pub from : AllZip IsSameRow a b → AllZip IsSameRow xs ys
 
-module _ (a b : List OwnerLocks) (i : ℕ) (x y : OwnerLocks) (in_a : i < length a) (in_b : i < length b) (is_x : x ≡ get_or a i x) (is_y : y ≡ get_or b i y) (left : Left a b i) where
-  pub left-more : IsSameRow x y → Left a b (i + 1)
+module _ (a b xs ys more rest : List OwnerLocks) (x y : OwnerLocks) (is_x : xs ≡ x ∷ more) (is_y : ys ≡ y ∷ rest) (left : Left a b xs ys) where
+  pub left-more : IsSameRow x y → Left a b more rest
   left-more same = record {
-    to = λ h. left.to (rw (drop_read a i x in_a is_x, drop_read b i y in_b is_y) (same, h));
-    from = λ h. (rw (drop_read a i x in_a is_x, drop_read b i y in_b is_y) at (left.from h)).1;
+    to = λ h. left.to (rw (is_x, is_y) (same, h));
+    from = λ h. (rw (is_x, is_y) at (left.from h)).1;
   }
 
   pub left-differ : (IsSameRow x y → ⊥) → AllZip IsSameRow a b → ⊥
-  left-differ differ h = differ (rw (drop_read a i x in_a is_x, drop_read b i y in_b is_y) at (left.from h)).0
+  left-differ differ h = differ (rw (is_x, is_y) at (left.from h)).0
 
--- the rows of a table, when it is given by its parts
-pub rows_are : (rows : List OwnerLocks) (limit : ℕ) (t : TableParts) → record { rows = rows; limit = limit } ≡ t → rows ≡ t.rows
-rows_are rows limit t is = ap (λ (u : TableParts). u.rows) is
+-- where one part has no row left, both are equal exactly where the other has none either
+pub left-longer : (a b xs ys rest : List OwnerLocks) (y : OwnerLocks) → xs ≡ [] → ys ≡ y ∷ rest → Left a b xs ys → AllZip IsSameRow a b → ⊥
+left-longer a b xs ys rest y none is left h = rw (none, is) at (left.from h)
 
-pub limit_is : (rows : List OwnerLocks) (limit : ℕ) (t : TableParts) → record { rows = rows; limit = limit } ≡ t → limit ≡ t.limit
-limit_is rows limit t is = ap (λ (u : TableParts). u.limit) is
+pub left-shorter : (a b xs ys more : List OwnerLocks) (x : OwnerLocks) → xs ≡ x ∷ more → ys ≡ [] → Left a b xs ys → AllZip IsSameRow a b → ⊥
+left-shorter a b xs ys more x is none left h = rw (is, none) at (left.from h)
+
+pub left-end : (a b xs ys : List OwnerLocks) → xs ≡ [] → ys ≡ [] → Left a b xs ys → AllZip IsSameRow a b
+left-end a b xs ys none nothing_left left = left.to (rw (none, nothing_left) tt)
+
+-- the blocks of a table, when it is given by its parts
+pub blocks_are : (blocks : List (List OwnerLocks)) (limit : ℕ) (t : TableParts) → record { blocks = blocks; limit = limit } ≡ t → blocks ≡ t.blocks
+blocks_are blocks limit t is = ap (λ (u : TableParts). u.blocks) is
+
+pub limit_is : (blocks : List (List OwnerLocks)) (limit : ℕ) (t : TableParts) → record { blocks = blocks; limit = limit } ≡ t → limit ≡ t.limit
+limit_is blocks limit t is = ap (λ (u : TableParts). u.limit) is

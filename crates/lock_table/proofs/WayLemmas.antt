@@ -6,6 +6,7 @@ use Rattle.intervals.specs.rule.Bytes.{Range, greatest, nothing, run_from, IsRun
 use Rattle.intervals.specs.code.Runs.{value_at}
 use Rattle.intervals.proofs.Find.{not_barred-none}
 use Rattle.model.specs.declared.mode.Mode.{Mode}
+use Rattle.model.specs.declared.owner.Owner.{Owner}
 use Rattle.model.specs.rule.Owners.{same_mode}
 use Rattle.model.specs.rule.Locks.{bar_of, FileLocks, excludes, bars, IsRegion, IsClear}
 use Rattle.model.proofs.RunLaws.{some_start, run_from-is_run}
@@ -96,10 +97,31 @@ module _ (g k : FileLocks) (r : OwnerLocks) (join : IsJoin g (locks_of r) k) (mo
     full_above = λ lt. way_left (span.hi + 1) (is.full_above lt);
   }
 
+-- the largest span in one of two parts of the locks, and then in the other, is the one in both
+pub around-join : (g h k : FileLocks) → IsJoin g h k → (mode : Mode) (required within span next : Range) → required.lo ≤ required.hi → IsLargest (HasInWay (IsRegion g) mode) required within span → IsLargest (HasInWay (IsRegion h) mode) required span next → IsLargest (HasInWay (IsRegion k) mode) required within next
+around-join g h k join mode required within span next order first second = IsLargest-iff (λ b. HasInWay (IsRegion g) mode b ⊎ HasInWay (IsRegion h) mode b) (HasInWay (IsRegion k) mode) required within next
+    (λ b either. elim either [
+      | inl has ↦ (has.0, region_left g h k join has.0 has.1, has.2)
+      | inr has ↦ (has.0, region_right g h k join has.0 has.1, has.2)
+    ])
+    (λ b has. elim (region_cases g h k join has.0 has.1) [
+      | inl left ↦ inl (has.0, left, has.2)
+      | inr right ↦ inr (has.0, right, has.2)
+    ])
+    (IsLargest-or (HasInWay (IsRegion g) mode) (HasInWay (IsRegion h) mode) required within span next order first second)
+
 -- if no lock is in the way on the span, no row has a byte there that bars the mode
-pub none_barred : (h : FileLocks) (part : List OwnerLocks) (file i : ℕ) (r : OwnerLocks) (s : Range) (mode : Mode) → IsClear h s mode → rows_held part file ≡ h → AreRows part → All (λ (t : OwnerLocks). t.file ≡ file) part → i < length part → r ≡ get_or part i r → NoneIn (IsBarred (value_at r.spans) (bar_of mode)) s
-none_barred h part file i r s mode clear same order files lt is b lo hi barred =
+pub none_barred : (part : List OwnerLocks) (file i : ℕ) (r : OwnerLocks) (s : Range) (mode : Mode) → IsClear (rows_held part file) s mode → AreRows part → All (λ (t : OwnerLocks). t.file ≡ file) part → i < length part → r ≡ get_or part i r → NoneIn (IsBarred (value_at r.spans) (bar_of mode)) s
+none_barred part file i r s mode clear order files lt is b lo hi barred =
     let of_file : r.file ≡ file = rw (← is) at (files i r lt) in
     let own : rows_held part file r.owner ≡ value_at r.spans = rw (← of_file) (row_held part i r order lt is) in
-    let here : h r.owner b ≡ value_at r.spans b = sym (ap (λ (e : FileLocks). e r.owner b) same) ∙ ap (λ (e : ℕ → Option Mode). e b) own in
+    let here : rows_held part file r.owner b ≡ value_at r.spans b = ap (λ (e : ℕ → Option Mode). e b) own in
     free_at r mode b (value_at r.spans b) refl (sym (ap (bars mode) here) ∙ clear r.owner b lo hi) barred
+
+-- where some of the locks are clear
+pub clear_among : (g h : FileLocks) (s : Range) (mode : Mode) → ((o : Owner) (b : ℕ) (m : Mode) → g o b ≡ Some m → h o b ≡ Some m) → IsClear h s mode → IsClear g s mode
+clear_among g h s mode among clear o b lo hi = go (g o b) refl
+  where
+    go : (x : Option Mode) → g o b ≡ x → bars mode (g o b) ≡ false
+    go None at = rw at refl
+    go (Some m) at = ap (bars mode) (at ∙ sym (among o b m at)) ∙ clear o b lo hi

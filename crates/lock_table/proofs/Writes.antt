@@ -13,17 +13,13 @@ use Rattle.model.specs.rule.Locks.{replace, with_lock}
 use Rattle.lock_table.specs.declared.owner_locks.OwnerLocks.{OwnerLocks}
 use Rattle.lock_table.specs.declared.page_index.PageIndex.{PageIndex}
 use Rattle.lock_table.specs.code.Pages.{MayHold, Covers}
-use Rattle.lock_table.specs.code.Rows.{rows_held, AreRows, IsRowAt, IsGap, HasRuns, HoldsSome}
-use Rattle.lock_table.proofs.RowLemmas.{held-at, held-gap, held-set, held-insert, held-remove, held-same, rows-set, rows-insert, rows-remove, place_of, row_alone}
+use Rattle.lock_table.specs.code.Rows.{rows_held, AreRows, IsRowAt, IsGap, HoldsSome}
+use Rattle.lock_table.proofs.RowLemmas.{held-at, held-gap, held-set, held-insert, held-remove, held-same, rows-set, rows-insert, rows-remove, place_of}
 use Rattle.lock_table.proofs.PageLemmas.{covers-changed}
 
 -- an edit with memory for the runs of a map makes its write
 written-fits : (e : SpanEdit Mode) (runs : List (ByteRun Mode)) → length runs ≤ e.runs → written e runs ≡ put (value_at runs) e.span e.value
 written-fits e runs le = ap (λ (b : Bool). if b then put (value_at runs) e.span e.value else value_at runs) (le-leb _ _ le)
-
--- the owner's row has no more runs than the write has memory for
-pub has_runs : (l : List OwnerLocks) (i file : ℕ) (owner : Owner) (r : OwnerLocks) (most : ℕ) → IsRowAt l i file owner → r ≡ get_or l i r → length r.spans ≤ most → HasRuns l file owner most
-has_runs l i file owner r most at is le j q other found = subst (λ (row : OwnerLocks). length row.spans ≤ most) (row_alone l i j file owner r q at is other found) le
 
 -- a row that is written and then removed
 pub remove-set : {X : Type 0} (l : List X) (i : ℕ) (x : X) → remove (set l i x) i ≡ remove l i
@@ -33,9 +29,9 @@ remove-set (y ∷ l) zero x = refl
 remove-set (y ∷ l) (suc i) x = ap (λ (rest : List _). y ∷ rest) (remove-set l i x)
 
 -- the bytes of the owner's row after the write
-row_written : (l : List OwnerLocks) (i file : ℕ) (owner : Owner) (e : SpanEdit Mode) (r : OwnerLocks) (after : List (ByteRun Mode)) → IsRowAt l i file owner → r ≡ get_or l i r → HasRuns l file owner e.runs → value_at after ≡ written e r.spans → value_at after ≡ put (rows_held l file owner) e.span e.value
+row_written : (l : List OwnerLocks) (i file : ℕ) (owner : Owner) (e : SpanEdit Mode) (r : OwnerLocks) (after : List (ByteRun Mode)) → IsRowAt l i file owner → r ≡ get_or l i r → length r.spans ≤ e.runs → value_at after ≡ written e r.spans → value_at after ≡ put (rows_held l file owner) e.span e.value
 row_written l i file owner e r after at is few made =
-    made ∙ (written-fits e r.spans (few i r at is) ∙ ap (λ (f : ℕ → Option Mode). put f e.span e.value) (sym (held-at l i file owner r at is)))
+    made ∙ (written-fits e r.spans few ∙ ap (λ (f : ℕ → Option Mode). put f e.span e.value) (sym (held-at l i file owner r at is)))
 
 -- the bytes of a new row, made from an empty map
 new_written : (l : List OwnerLocks) (i file : ℕ) (owner : Owner) (e : SpanEdit Mode) (before after : List (ByteRun Mode)) → IsGap l i file owner → value_at before ≡ nothing → before ≡ [] → value_at after ≡ written e before → value_at after ≡ put (rows_held l file owner) e.span e.value
@@ -57,14 +53,14 @@ module _ (x y : PageIndex) (l : List OwnerLocks) (i file : ℕ) (owner : Owner) 
       (order, covers-changed x y (rows_held l) (rows_held new) file owner (rows_held l file owner) (put (rows_held l file owner) e.span e.value) same kept.1 keeps (λ b m was. was) (noted (rows_held l file owner)), same)
 
   -- the owner's row is written
-  pub row_set : (r : OwnerLocks) (after : List (ByteRun Mode)) → IsRowAt l i file owner → r ≡ get_or l i r → HasRuns l file owner e.runs → value_at after ≡ written e r.spans → HoldsSome (value_at after) → IsLeft y l file owner e (set l i (record r { spans = after }))
+  pub row_set : (r : OwnerLocks) (after : List (ByteRun Mode)) → IsRowAt l i file owner → r ≡ get_or l i r → length r.spans ≤ e.runs → value_at after ≡ written e r.spans → HoldsSome (value_at after) → IsLeft y l file owner e (set l i (record r { spans = after }))
   row_set r after at is few made some =
       let row : OwnerLocks = record r { spans = after } in
       let place = place_of l i file owner r at is in
       left (set l i row) (value_at after) (rows-set l i file owner row at place.0 place.1 some kept.0) (held-set l i file owner row at place.0 place.1) (row_written l i file owner e r after at is few made)
 
   -- the owner's row is removed
-  pub row_gone : (r : OwnerLocks) (after : List (ByteRun Mode)) → IsRowAt l i file owner → r ≡ get_or l i r → HasRuns l file owner e.runs → value_at after ≡ written e r.spans → value_at after ≡ nothing → IsLeft y l file owner e (remove l i)
+  pub row_gone : (r : OwnerLocks) (after : List (ByteRun Mode)) → IsRowAt l i file owner → r ≡ get_or l i r → length r.spans ≤ e.runs → value_at after ≡ written e r.spans → value_at after ≡ nothing → IsLeft y l file owner e (remove l i)
   row_gone r after at is few made none =
       left (remove l i) nothing (rows-remove l i kept.0) (held-remove l i file owner kept.0 at) (sym none ∙ row_written l i file owner e r after at is few made)
 

@@ -2,6 +2,8 @@
 //! for locks in the way. This crate knows nothing of processes, descriptors, tokens or messages.
 #![tactic(auto)]
 
+mod block;
+mod blocks;
 pub mod error;
 pub mod flag_set;
 pub mod laws;
@@ -11,6 +13,7 @@ pub mod owner_locks;
 pub mod owner_set;
 mod owner_spans;
 pub mod page_index;
+mod place;
 
 pub use model::lock_info::LockInfo;
 pub use model::mode::Mode;

@@ -1,19 +1,18 @@
 //! The table of the record locks of one node.
-ghost use Rattle.std.specs.Prelude.{◌≡◌, ℕ, ◌≤◌, ◌<◌, ◌+◌, ◌-◌, ◌/◌, All, IfOk, IfSome, length, insert, [], IsTrue, ◌↔◌, OnOk, OnErr, Err, Some, None, MatchResult};
-ghost use Rattle.std.specs.List.{AllZip};
+ghost use Rattle.std.specs.Prelude.{◌≡◌, ℕ, ◌≤◌, ◌<◌, ◌+◌, ◌-◌, ◌/◌, IfOk, IfSome, IsTrue, ◌↔◌, OnOk, OnErr, Err, Some, None};
 ghost use Rattle.intervals.specs.rule.Bytes.{nothing, put};
 ghost use Rattle.model.specs.rule.Locks.{no_locks, with_lock, without_owner, without_owner_anywhere, regions};
 ghost use Rattle.model.specs.declared.mode.Mode.{Mode as SomeMode};
 ghost use Rattle.lock_table.specs.declared.error.LockError.TheVariants.{NoLocks};
-ghost use Rattle.std.specs.Vec.{vec_capacity};
-ghost use Rattle.lock_table.specs.code.Rows.{rows_held, held, IsSameTable, HoldsLess, AreRows, IsRowAt, IsGap, IsSameRow};
+ghost use Rattle.lock_table.specs.code.Rows.{held, IsSameTable, HoldsLess};
 ghost use Rattle.lock_table.specs.code.Pages.{HasFlag};
 
+use crate::block::Block;
+use crate::blocks::{RowRoom, copies, drop_rows, remove_row};
 use crate::error::LockError;
 use crate::flag_set::FlagSet;
-use crate::owner_locks::OwnerLocks;
-use crate::owner_set::mark_of;
 use crate::page_index::PageIndex;
+use crate::place::{Place, position, same_rows};
 use intervals::span::Span;
 use intervals::span_edit::SpanEdit;
 use model::mode::Mode;
@@ -25,11 +24,11 @@ mod plans;
 mod searches;
 mod writes;
 
-// A table of fewer rows than this keeps no index.
-const LEAST_ROWS: usize = 64;
+// A table of fewer blocks than this keeps no index.
+const LEAST_BLOCKS: usize = 2;
 
-// A table has places for a multiple of so many rows.
-const PLACES: usize = 64;
+// The number of rows for which an index has memory, for each block.
+const ROWS_OF_BLOCK: usize = 32;
 
 /// The record locks of one node: what each owner holds at each byte of each file, by mode. `set`,
 /// `unlock` and a change from `plan` leave an owner at most as many regions in a file as the
@@ -37,101 +36,35 @@ const PLACES: usize = 64;
 /// as they were.
 #[derive(Drop)]
 pub struct LockTable {
-    rows: Vec<OwnerLocks>,
+    blocks: Vec<Block>,
     index: PageIndex,
     limit: usize,
 }
 
 impl Model for LockTable {
-    ghost use Rattle.std.specs.Prelude.{◌≤◌, length};
-    ghost use Rattle.std.specs.Vec.{vec_capacity};
-    ghost use Rattle.lock_table.specs.code.Rows.{TableParts, AreRows, rows_held, places_for};
+    ghost use Rattle.lock_table.specs.code.Rows.{TableParts, AreRows, all_rows, rows_held};
+    ghost use Rattle.lock_table.specs.code.Blocks.{AreSome};
     ghost use Rattle.lock_table.specs.code.Pages.{Covers};
 
     ghost Value = { TableParts };
 
-    ghost view = { λ t. record { rows = t.rows.items; limit = t.limit } };
+    ghost view = { λ t. record { blocks = t.blocks.items; limit = t.limit } };
 
-    ghost invariant = { λ t. AreRows t.rows.items × Covers t.index (rows_held t.rows.items) × (places_for (length t.rows.items) ≤ vec_capacity t.rows) };
+    ghost invariant = { λ t. AreRows (all_rows t.blocks.items) × AreSome t.blocks.items × Covers t.index (rows_held (all_rows t.blocks.items)) };
 }
 
-// The place of the owner's row in the file, or the place at which it belongs.
-fn position(rows: &[OwnerLocks], file: u16, owner: Owner) -> Result<usize, usize>
-    requires { AreRows rows.now }
-    ensures { MatchResult result (λ i. IsRowAt rows.now i file owner) (λ i. IsGap rows.now i file owner) }
-{
-    let mark = mark_of(file, owner);
-    rows.binary_search_by(|row| row.cmp_place(mark, owner))
-}
-
-// The rows of a file.
-fn rows_of(rows: &[OwnerLocks], file: u16) -> &[OwnerLocks]
-    requires { AreRows rows.now }
-    ensures rows { AreRows result.now }
-    ensures file { All (λ row. row.file ≡ file) result.now }
-    ensures held { rows_held result.now file ≡ rows_held rows.now file }
-{
-    let start = rows.partition_point(|row| row.file < file);
-    let end = rows.partition_point(|row| row.file <= file);
-    &rows[start..end]
-}
-
-// Whether both lists have equal rows in the same order.
-fn same_rows(rows: &[OwnerLocks], others: &[OwnerLocks]) -> bool
-    ensures { IsTrue result ↔ AllZip IsSameRow rows.now others.now }
-{
-    if rows.len() != others.len() {
-        return false;
-    }
-    for (i, row) in rows.iter().enumerate() {
-        if !row.same(&others[i]) {
-            return false;
-        }
-    }
-    true
-}
-
-/// A planned change of what an owner holds in a file, with the memory that it takes: `room` is an
-/// empty list, with room for all rows and some more if the owner has no row in the file and the
-/// table may have no place for one; if the table is to keep an index and has none, or one that is
-/// small for its rows, `index` has memory for one.
+/// A planned change of what an owner holds in a file, with the memory that it takes: where the
+/// owner's row stands, or belongs; room for one more block, if the owner has no row in the file and
+/// its block is full; if the table is to keep an index and has none, or one that is small for its
+/// rows, `index` has memory for one.
 #[derive(Drop)]
 pub struct LockEdit {
     pub file: u16,
     pub owner: Owner,
     pub write: SpanEdit<Mode>,
-    pub room: Vec<OwnerLocks>,
+    pub place: Result<Place, Place>,
+    pub room: Option<Box<RowRoom>>,
     pub index: Option<Box<PageIndex>>,
-}
-
-// Moves the rows to the empty list `room` if that has places for 64 more of them and their own list
-// has not.
-fn move_rows(rows: &mut Vec<OwnerLocks>, room: Vec<OwnerLocks>)
-    requires empty { room.items ≡ [] }
-    ensures items { rows.new.items ≡ rows.old.items }
-    ensures kept { vec_capacity rows.old ≤ vec_capacity rows.new }
-    ensures room { length rows.old.items + 64 ≤ vec_capacity room → length rows.old.items + 64 ≤ vec_capacity rows.new }
-{
-    let wanted = rows.len().saturating_add(PLACES);
-    if rows.capacity() >= wanted || room.capacity() < wanted {
-        return;
-    }
-    let mut moved = std::mem::replace(rows, room);
-    let Ok(()) = rows.append(&mut moved) else {
-        unreachable!()
-    };
-}
-
-// Inserts a row, for which there is room.
-fn insert_row(rows: &mut Vec<OwnerLocks>, place: usize, row: OwnerLocks)
-    requires place { place ≤ length rows.old.items }
-    requires room { length rows.old.items < vec_capacity rows.old }
-    ensures items { rows.new.items ≡ insert rows.old.items place row }
-    ensures kept { vec_capacity rows.old ≤ vec_capacity rows.new }
-{
-    let Ok(()) = rows.insert(place, row) else {
-        unreachable!()
-    };
 }
 
 impl LockTable {
@@ -141,7 +74,7 @@ impl LockTable {
         ensures limit { result.limit ≡ limit }
     {
         LockTable {
-            rows: Vec::new(alloc),
+            blocks: Vec::new(alloc),
             index: PageIndex::none(alloc),
             limit,
         }
@@ -154,14 +87,9 @@ impl LockTable {
     pub fn copy(&self) -> Result<Self, AllocError>
         ensures { IfOk result (λ copy. copy ≡ self.now) }
     {
-        let alloc = *self.rows.allocator();
-        let places = (self.rows.len() + PLACES - 1) / PLACES * PLACES;
-        let mut rows = Vec::with_capacity(alloc, places)?;
-        for row in &self.rows {
-            rows.push(row.copy()?)?;
-        }
+        let alloc = *self.blocks.allocator();
         Ok(LockTable {
-            rows,
+            blocks: copies(alloc, &self.blocks)?,
             index: PageIndex::none(alloc),
             limit: self.limit,
         })
@@ -171,7 +99,7 @@ impl LockTable {
     pub fn same(&self, other: &Self) -> bool
         ensures { IsTrue result ↔ IsSameTable self.now other.now }
     {
-        self.limit == other.limit && same_rows(&self.rows, &other.rows)
+        self.limit == other.limit && same_rows(&self.blocks, &other.blocks)
     }
 
     /// Sets each byte of the span to the mode for this owner (POSIX.1-2017 `fcntl()`, F_SETLK with
@@ -219,8 +147,8 @@ impl LockTable {
         ensures locks { held self.new ≡ without_owner (held self.old) file owner }
         ensures limit { self.new.limit ≡ self.old.limit }
     {
-        if let Ok(i) = position(&self.rows, file, owner) {
-            self.rows.remove(i);
+        if let Ok(place) = position(&self.blocks, file, owner) {
+            remove_row(&mut self.blocks, place);
         }
     }
 
@@ -265,7 +193,7 @@ impl LockTable {
         ensures locks { held self.new ≡ without_owner_anywhere (held self.old) owner }
         ensures limit { self.new.limit ≡ self.old.limit }
     {
-        self.rows.retain(|row| row.owner != owner);
+        drop_rows(&mut self.blocks, owner);
     }
 
     /// Frees each byte of every file for an owner. Takes no memory.

@@ -6,9 +6,10 @@ ghost use Rattle.intervals.specs.rule.Bytes.{put};
 ghost use Rattle.intervals.specs.code.Runs.{value_at};
 ghost use Rattle.model.specs.declared.mode.Mode.{Mode as SomeMode};
 ghost use Rattle.model.specs.declared.owner.Owner.{Owner as SomeOwner};
-ghost use Rattle.lock_table.specs.code.Rows.{rows_held, AreRows};
+ghost use Rattle.lock_table.specs.code.Rows.{all_rows, rows_held};
 ghost use Rattle.lock_table.specs.code.Pages.{Has, HasFlag, HasFile, MayHold, HasPage, IsKept, Covers, slot_of};
 
+use crate::block::Block;
 use crate::flag_set::FlagSet;
 use crate::owner_locks::OwnerLocks;
 use crate::owner_set::{OwnerSet, flag_of};
@@ -237,10 +238,21 @@ impl PageIndex {
         }
     }
 
-    /// Forgets all notes, and notes what the rows hold.
-    pub(crate) fn renew(&mut self, rows: &[OwnerLocks])
-        requires { AreRows rows.now }
-        ensures { Covers self.new (rows_held rows.now) }
+    // Notes the bytes that the rows hold.
+    fn note_rows(&mut self, rows: &[OwnerLocks])
+        requires kept { IsKept self.old }
+        ensures kept { IsKept self.new }
+        ensures keeps { (f : ℕ) (o : SomeOwner) (b : ℕ) → MayHold self.old f o b → MayHold self.new f o b }
+        ensures noted { Covers self.new (rows_held rows.now) }
+    {
+        for row in rows {
+            self.note_row(row);
+        }
+    }
+
+    /// Forgets all notes, and notes what the rows of the blocks hold.
+    pub(crate) fn renew(&mut self, blocks: &[Block])
+        ensures { Covers self.new (rows_held (all_rows blocks.now)) }
     {
         if !self.is_kept() {
             return;
@@ -250,8 +262,8 @@ impl PageIndex {
         self.long = OwnerSet::none();
         self.wide = OwnerSet::none();
         self.notes = 0;
-        for row in rows {
-            self.note_row(row);
+        for block in blocks {
+            self.note_rows(block.rows());
         }
     }
 }

@@ -1,9 +1,8 @@
 -- Planned changes of the table.
-use Rattle.std.specs.Prelude.{◌≡◌, true, []}
-use Rattle.std.specs.Vec.{vec_capacity}
+use Rattle.std.specs.Prelude.{◌≡◌, true}
 use Rattle.model.specs.rule.Locks.{with_lock}
 use Rattle.model.specs.rule.Table.{Table, is_running, descriptor, closed_if, exited}
-use Rattle.lock_table.specs.code.Rows.{HasRoom, HasRuns}
+use Rattle.lock_table.specs.code.Blocks.{Fits as LocksFit}
 use Rattle.descriptors.specs.code.Edits.{edited as edited_processes}
 use Rattle.fcntl_table.specs.declared.edit.TableEdit.{TableEdit}
 use Rattle.fcntl_table.specs.declared.edit.TableEdit.TheVariants.{Nothing, OfProcess, OfLocks, Closes, Exits}
@@ -23,6 +22,6 @@ edited t (Exits p) = exited t p
 abbrev pub Fits : FcntlTable → TableEdit → Type 0
 Fits t Nothing = Unit {0}
 Fits t (OfProcess host e) = FitsOn t.hosts host e
-Fits t (OfLocks e) = (e.room.items ≡ []) × HasRoom t.locks.rows e.file e.owner (vec_capacity e.room) × HasRuns t.locks.rows e.file e.owner e.write.runs
+Fits t (OfLocks e) = LocksFit t.locks e
 Fits t (Closes p fd) = is_running (table_of t) p ≡ true
 Fits t (Exits p) = is_running (table_of t) p ≡ true

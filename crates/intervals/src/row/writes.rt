@@ -7,7 +7,8 @@ ghost use Rattle.intervals.specs.code.Entries.{BeginAbove};
 ghost use Rattle.intervals.specs.code.Parts.{AreSome, row_runs, runs_below, part_at, runs_above, runs_to, IsPut, IsRewritten};
 
 use super::{MOST, Row, Spare, kept_of, make_room};
-use crate::byte_run::{ByteRun, splice};
+use crate::byte_run::ByteRun;
+use crate::byte_run::writes::splice;
 use crate::part::Part;
 use crate::span::Span;
 use crate::span_map::Exact;

@@ -5,6 +5,8 @@ use Rattle.model.specs.rule.Locks.{FileLocks, bars, IsRegion, IsLowestBlocker, I
 use Rattle.model.specs.declared.mode.Mode.{Mode}
 use Rattle.model.specs.declared.owner.Owner.{Owner}
 use Rattle.model.specs.declared.lock_info.LockInfo.{LockInfo}
+use Rattle.lock_table.specs.declared.owner_set.OwnerSet.{OwnerSet}
+use Rattle.lock_table.specs.code.Pages.{Has}
 
 -- the owner counts in a search that leaves out at most one owner
 abbrev pub IsAsked : Option Owner → Owner → Type 0
@@ -28,6 +30,10 @@ pub record IsLowestBut (h : FileLocks) (out : Option Owner) (s : Range) (mode : 
 -- a lock of a kind holds byte b and excludes the mode
 abbrev pub HasInWay : (LockInfo → Type 0) → Mode → ℕ → Type 0
 HasInWay IsOne mode b = (lock : LockInfo) × IsOne lock × IsInWay (record { lo = b; hi = b }) mode lock
+
+-- the set has each owner that holds a byte of the span
+abbrev pub AreNear : FileLocks → OwnerSet → Range → Type 0
+AreNear h near s = (o : Owner) (b : ℕ) (m : Mode) → s.lo ≤ b → b ≤ s.hi → h o b ≡ Some m → Has near o
 
 -- two locks that are both the lowest that blocks an owner are equal
 abbrev pub LowestBlockerIsOne : Type 0

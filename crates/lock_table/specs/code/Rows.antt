@@ -1,6 +1,7 @@
 -- The rows of a lock table, and the locks that they hold.
 use Rattle.std.specs.Prelude.{◌≡◌, ◌≢◌, ℕ, zero, suc, ◌+◌, ◌*◌, ◌/◌, ◌%◌, ◌<◌, ◌≤◌, ◌⊎◌, false, Option, None, Some, length, get_or, List, [], ◌∷◌}
 use Rattle.std.specs.Borrow.{Bor}
+use Rattle.std.specs.List.{flat_map}
 use Rattle.std.specs.Ordering.{nat_cmp, ordering_then}
 use Rattle.std.specs.declared.cmp.Ordering.{Ordering}
 use Rattle.std.specs.declared.cmp.Ordering.TheVariants.{Less, Equal, Greater}
@@ -20,14 +21,18 @@ unfoldable pub rows_held : List OwnerLocks → Locks
 rows_held [] = no_locks
 rows_held (r ∷ rest) = replace (rows_held rest) r.file r.owner (value_at r.spans)
 
--- a lock table: its rows, and the greatest number of regions of an owner in a file
+-- the rows of all blocks, in order
+abbrev pub all_rows : List (List OwnerLocks) → List OwnerLocks
+all_rows = flat_map (λ rows. rows)
+
+-- a lock table: its rows in blocks, and the greatest number of regions of an owner in a file
 pub record TableParts : Type 0 where
-  pub rows : List OwnerLocks
+  pub blocks : List (List OwnerLocks)
   pub limit : ℕ
 
 -- the locks that a table holds
 abbrev pub held : TableParts → Locks
-held t = rows_held t.rows
+held t = rows_held (all_rows t.blocks)
 
 -- both tables hold the same locks, and have the same limit
 pub record IsSameTable (a b : TableParts) : Type 0 where
@@ -90,18 +95,6 @@ abbrev pub IsGap : List OwnerLocks → ℕ → ℕ → Owner → Type 0
 IsGap rows zero file owner = AllAfter file owner rows
 IsGap [] (suc i) file owner = ⊥
 IsGap (r ∷ rest) (suc i) file owner = (row_cmp r file owner ≡ Less) × IsGap rest i file owner
-
--- the number of places that a table has at least for so many rows: a multiple of 64
-abbrev pub places_for : ℕ → ℕ
-places_for n = (n + 63) / 64 * 64
-
--- if the owner has no row in the file, and the rows may fill all places, the capacity is enough for 64 more
-abbrev pub HasRoom : List OwnerLocks → ℕ → Owner → ℕ → Type 0
-HasRoom rows file owner capacity = (i : ℕ) → IsGap rows i file owner → length rows % 64 ≡ 0 → length rows + 64 ≤ capacity
-
--- the owner's row in the file, if there is one, has at most `most` runs
-abbrev pub HasRuns : List OwnerLocks → ℕ → Owner → ℕ → Type 0
-HasRuns rows file owner most = (i : ℕ) (row : OwnerLocks) → IsRowAt rows i file owner → row ≡ get_or rows i row → length row.spans ≤ most
 
 -- the locks of one row, in the row's file
 abbrev pub locks_of : OwnerLocks → FileLocks

@@ -1,16 +1,18 @@
 //! The planned changes of the table of a node.
-ghost use Rattle.std.specs.Prelude.{◌≡◌, ◌≤◌, ◌<◌, ◌+◌, ◌-◌, ◌/◌, ◌*◌, ◌%◌, false, nat_le, IfOk, IfSome, length, [], OnOk, Err};
-ghost use Rattle.intervals.specs.rule.Bytes.{nothing, put};
+ghost use Rattle.std.specs.Prelude.{◌≡◌, ◌≤◌, ◌<◌, ◌⊎◌, ⊤, ℕ, nat_le, length, IfOk, IfErr, MatchResult, OnOk, Err};
+ghost use Rattle.intervals.specs.rule.Bytes.{put};
 ghost use Rattle.model.specs.rule.Locks.{with_lock, regions};
+ghost use Rattle.model.specs.declared.owner.Owner.{Owner as SomeOwner};
 ghost use Rattle.lock_table.specs.declared.error.LockError.TheVariants.{NoLocks};
-ghost use Rattle.std.specs.Vec.{vec_capacity};
-ghost use Rattle.lock_table.specs.code.Rows.{bytes_in, runs_in, held, HasRoom, HasRuns};
+ghost use Rattle.lock_table.specs.code.Rows.{bytes_in, runs_in, held};
+ghost use Rattle.lock_table.specs.code.Blocks.{Fits, HasRoom, IsPlaced, IsRowOf, RunsFit};
 
-use super::{LEAST_ROWS, LockEdit, LockTable, PLACES, position};
+use super::{LEAST_BLOCKS, LockEdit, LockTable, ROWS_OF_BLOCK};
+use crate::blocks::{RowRoom, row_room};
 use crate::error::LockError;
-use crate::owner_locks::OwnerLocks;
 use crate::owner_spans::OwnerSpans;
 use crate::page_index::PageIndex;
+use crate::place::{Place, position, row_at};
 use intervals::span::Span;
 use intervals::span_edit::SpanEdit;
 use model::mode::Mode;
@@ -18,15 +20,14 @@ use model::owner::Owner;
 use std::alloc::AllocError;
 
 impl LockTable {
-    // What the owner holds in the file; `None` where the owner has no row there, and so holds
-    // nothing.
-    fn spans_of(&self, file: u16, owner: Owner) -> Option<&OwnerSpans>
-        ensures held { bytes_in result ≡ held self.now file owner }
-        ensures runs { HasRuns self.now.rows file owner (runs_in result) }
-        ensures row { IfSome result (λ _. HasRoom self.now.rows file owner 0) }
+    // What the owner of a row at a place holds; `None` where there is only a place for a row.
+    fn spans_at(&self, place: &Result<Place, Place>) -> Option<&OwnerSpans>
+        requires { MatchResult place.now (IsRowOf self.now.blocks) (λ _. ⊤) }
+        ensures held { (file : ℕ) (owner : SomeOwner) → IsPlaced self.now.blocks place.now file owner → bytes_in result ≡ held self.now file owner }
+        ensures runs { MatchResult place.now (λ p. RunsFit self.now.blocks p (runs_in result)) (λ _. ⊤) }
     {
-        match position(&self.rows, file, owner) {
-            Ok(i) => Some(&self.rows[i].spans),
+        match place {
+            Ok(place) => Some(&row_at(&self.blocks, *place).spans),
             Err(_) => None,
         }
     }
@@ -39,7 +40,7 @@ impl LockTable {
         match own {
             Some(own) => own.stays_within(span, mode, self.limit),
             None => {
-                let nothing = OwnerSpans::new(*self.rows.allocator());
+                let nothing = OwnerSpans::new(*self.blocks.allocator());
                 nothing.stays_within(span, mode, self.limit)
             }
         }
@@ -59,33 +60,32 @@ impl LockTable {
         match own {
             Some(own) => Ok(own.plan(span, mode)?),
             None => {
-                let nothing = OwnerSpans::new(*self.rows.allocator());
+                let nothing = OwnerSpans::new(*self.blocks.allocator());
                 Ok(nothing.plan(span, mode)?)
             }
         }
     }
 
-    // An empty list: with room for all rows and half as many more, and at least 64, if the owner has
-    // no row in the file and the rows may fill all places.
-    fn room_for(&self, has_row: bool) -> Result<Vec<OwnerLocks>, AllocError>
-        ensures empty { IfOk result (λ room. room.items ≡ []) }
-        ensures room { IfOk result (λ room. has_row ≡ false → length self.now.rows % 64 ≡ 0 → length self.now.rows + 64 ≤ vec_capacity room) }
+    // Memory for one more block, if a row is to be inserted and its block is full, or there is none.
+    fn room_for(&self, place: &Result<Place, Place>) -> Result<Option<Box<RowRoom>>, AllocError>
+        requires { IfErr place.now (λ p. (p.block < length self.now.blocks) ⊎ (length self.now.blocks ≡ 0)) }
+        ensures { IfOk result (λ room. IfErr place.now (λ p. HasRoom self.now.blocks p room)) }
     {
-        let alloc = *self.rows.allocator();
-        let rows = self.rows.len();
-        if has_row || rows % PLACES > 0 {
-            return Ok(Vec::new(alloc));
+        let Err(place) = place else {
+            return Ok(None);
+        };
+        let blocks = self.blocks.len();
+        if place.block < blocks && !self.blocks[place.block].is_full() {
+            return Ok(None);
         }
-        Vec::with_capacity(alloc, rows + rows / 2 + PLACES)
+        Ok(Some(row_room(*self.blocks.allocator(), blocks)?))
     }
 
     // Memory for an index, if the table is to keep one and has none, or one that is small for it.
-    fn index_for(&self) -> Result<Option<Box<PageIndex>>, AllocError>
-        ensures { IfOk result (λ index. IfSome index (λ _. 64 ≤ length self.now.rows)) }
-    {
-        let alloc = *self.rows.allocator();
-        let rows = self.rows.len();
-        if rows < LEAST_ROWS || !self.index.is_small(rows) {
+    fn index_for(&self) -> Result<Option<Box<PageIndex>>, AllocError> {
+        let alloc = *self.blocks.allocator();
+        let rows = self.blocks.len().saturating_mul(ROWS_OF_BLOCK);
+        if self.blocks.len() < LEAST_BLOCKS || !self.index.is_small(rows) {
             return Ok(None);
         }
         let index = PageIndex::with_memory(alloc, rows)?;
@@ -107,22 +107,22 @@ impl LockTable {
         ensures few { OnOk result (regions (put (held self.now file owner) span mode) ≤ self.now.limit) }
         ensures many { result ≡ Err NoLocks → self.now.limit < regions (put (held self.now file owner) span mode) }
         ensures refused { self.now.limit < regions (put (held self.now file owner) span mode) → result ≡ Err NoLocks }
-        ensures runs { IfOk result (λ e. HasRuns self.now.rows e.file e.owner e.write.runs) }
-        ensures room { IfOk result (λ e. HasRoom self.now.rows e.file e.owner (vec_capacity e.room)) }
-        ensures empty { IfOk result (λ e. e.room.items ≡ []) }
+        ensures fits { IfOk result (Fits self.now) }
         ensures of_owner { IfOk result (λ e. e.owner ≡ owner) }
     {
-        let own = self.spans_of(file, owner);
+        let place = position(&self.blocks, file, owner);
+        let own = self.spans_at(&place);
         if !self.stays_within(own, span, mode) {
             return Err(LockError::NoLocks);
         }
         let write = self.plan_write(own, span, mode)?;
-        let room = self.room_for(own.is_some())?;
+        let room = self.room_for(&place)?;
         let index = self.index_for()?;
         Ok(LockEdit {
             file,
             owner,
             write,
+            place,
             room,
             index,
         })

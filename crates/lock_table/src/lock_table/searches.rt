@@ -1,41 +1,91 @@
 //! The searches for locks in the table of a node.
-ghost use Rattle.std.specs.Prelude.{◌≤◌, ◌<◌, ◌+◌, ◌-◌, ◌/◌, IfOk, length, IsTrue, ◌↔◌, Err, Some, None, MatchOption};
+ghost use Rattle.std.specs.Prelude.{◌≡◌, ◌≤◌, ◌<◌, ◌++◌, List, IfOk, IsTrue, ◌↔◌, OnOk, MatchOption};
 ghost use Rattle.intervals.specs.rule.Bytes.{IsLargest};
 ghost use Rattle.model.specs.rule.Locks.{IsFree, IsRegion, IsLowestBlocker, IsClear, IsLowestInWay};
-ghost use Rattle.lock_table.specs.code.Rows.{held, AreRows, ArePassed};
-ghost use Rattle.lock_table.specs.code.Blockers.{IsLowestBut, HasInWay};
-ghost use Rattle.lock_table.specs.code.Listing.{IsListing};
+ghost use Rattle.model.specs.declared.lock_info.LockInfo.{LockInfo as SomeLock};
+ghost use Rattle.lock_table.specs.code.Rows.{held, rows_held, AreRows};
+ghost use Rattle.lock_table.specs.code.Blockers.{AreNear, IsLowestBut, HasInWay};
+ghost use Rattle.lock_table.specs.code.Listing.{IsListing, ListsRegions};
 
-use super::{LockTable, position, rows_of};
+use super::LockTable;
 use crate::order::{cmp_regions, lowest_of};
 use crate::owner_locks::OwnerLocks;
-use crate::owner_set::{OwnerSet, flag_of, mark_of};
+use crate::owner_set::OwnerSet;
+use crate::place::{blocks_of, next_near, position, row_at, rows_of};
 use intervals::span::Span;
 use model::lock_info::LockInfo;
 use model::mode::Mode;
 use model::owner::Owner;
 use std::alloc::AllocError;
 
-// The place of the first row, from place `from` on, whose owner may be in the set. The rows before
-// it are passed by halving.
-fn next_near(rows: &[OwnerLocks], from: usize, near: &OwnerSet) -> usize
+// The lowest region of the file in the way of the mode in the span. Rows of owners that the set
+// doesn't have are passed, and regions of the owner `out` don't count.
+fn lowest_in(
+    rows: &[OwnerLocks],
+    file: u16,
+    near: &OwnerSet,
+    out: &Option<Owner>,
+    span: Span,
+    mode: Mode,
+) -> Option<LockInfo>
     requires rows { AreRows rows.now }
-    requires from { from ≤ length rows.now }
-    ensures from { from ≤ result }
-    ensures within { result ≤ length rows.now }
-    ensures passed { ArePassed rows.now near.now from result }
+    requires near { AreNear (rows_held rows.now file) near.now span }
+    ensures { IsLowestBut (rows_held rows.now file) out.now span mode result }
 {
-    if from == rows.len() {
-        return from;
+    let bar = mode.bar();
+    let rows = rows_of(rows, file);
+    let mut lowest = None;
+    let mut at = next_near(rows, 0, near);
+    while at < rows.len() {
+        let row = &rows[at];
+        if row.may_bar(near, bar) {
+            lowest = lowest_of(lowest, row.lowest_but(out, span, mode));
+        }
+        at = next_near(rows, at + 1, near);
     }
-    let row = &rows[from];
-    if near.has(row.owner) {
-        return from;
+    lowest
+}
+
+// The largest span that contains `required`, lies in `within`, and has no byte that an owner holds in
+// the file in a mode that excludes this one. Rows of owners that the set doesn't have are passed.
+fn free_in(
+    rows: &[OwnerLocks],
+    file: u16,
+    near: &OwnerSet,
+    required: Span,
+    within: Span,
+    mode: Mode,
+) -> Span
+    requires rows { AreRows rows.now }
+    requires near { AreNear (rows_held rows.now file) near.now within }
+    requires starts_within { within.lo ≤ required.lo }
+    requires ends_within { required.hi ≤ within.hi }
+    requires clear { IsClear (rows_held rows.now file) required mode }
+    ensures { IsLargest (HasInWay (IsRegion (rows_held rows.now file)) mode) required within result }
+{
+    let _ = &required.lo; // tells the proof that the span has a byte
+    let rows = rows_of(rows, file);
+    let mut span = within;
+    let mut at = next_near(rows, 0, near);
+    while at < rows.len() {
+        let row = &rows[at];
+        if near.has(row.owner) {
+            span = row.spans.largest_around(required, span, mode.bar());
+        }
+        at = next_near(rows, at + 1, near);
     }
-    let next = near.next(flag_of(row.owner));
-    let bound = row.file as usize * 256 + next;
-    let (_, rest) = rows.split_at(from);
-    from + rest.partition_point(|row| mark_of(row.file, row.owner) < bound)
+    span
+}
+
+// Adds the regions of the file.
+fn push_rows(rows: &[OwnerLocks], file: u16, locks: &mut Vec<LockInfo>) -> Result<(), AllocError>
+    requires { AreRows rows.now }
+    ensures { OnOk result ((more : List SomeLock) × (locks.new.items ≡ locks.old.items ++ more) × ListsRegions (rows_held rows.now file) more) }
+{
+    for row in rows_of(rows, file) {
+        row.push_regions(locks)?;
+    }
+    Ok(())
 }
 
 impl LockTable {
@@ -45,16 +95,10 @@ impl LockTable {
         ensures { IsLowestBut (held self.now file) out.now span mode result }
     {
         let near = self.index.near(file, span);
-        let bar = mode.bar();
-        let rows = rows_of(&self.rows, file);
         let mut lowest = None;
-        let mut at = next_near(rows, 0, &near);
-        while at < rows.len() {
-            let row = &rows[at];
-            if row.may_bar(&near, bar) {
-                lowest = lowest_of(lowest, row.lowest_but(out, span, mode));
-            }
-            at = next_near(rows, at + 1, &near);
+        for block in blocks_of(&self.blocks, file) {
+            let found = lowest_in(block.rows(), file, &near, out, span, mode);
+            lowest = lowest_of(lowest, found);
         }
         lowest
     }
@@ -88,15 +132,9 @@ impl LockTable {
     {
         let _ = &required.lo; // tells the proof that the span has a byte
         let near = self.index.near(file, within);
-        let rows = rows_of(&self.rows, file);
         let mut span = within;
-        let mut at = next_near(rows, 0, &near);
-        while at < rows.len() {
-            let row = &rows[at];
-            if near.has(row.owner) {
-                span = row.spans.largest_around(required, span, mode.bar());
-            }
-            at = next_near(rows, at + 1, &near);
+        for block in blocks_of(&self.blocks, file) {
+            span = free_in(block.rows(), file, &near, required, span, mode);
         }
         span
     }
@@ -106,8 +144,8 @@ impl LockTable {
     pub fn has_region(&self, file: u16, lock: &LockInfo) -> bool
         ensures { IsTrue result ↔ IsRegion (held self.now file) lock.now }
     {
-        match position(&self.rows, file, lock.owner) {
-            Ok(i) => self.rows[i].has_run(lock.span, lock.mode),
+        match position(&self.blocks, file, lock.owner) {
+            Ok(place) => row_at(&self.blocks, place).has_run(lock.span, lock.mode),
             Err(_) => false,
         }
     }
@@ -119,9 +157,9 @@ impl LockTable {
     pub fn locks(&self, file: u16) -> Result<Vec<LockInfo>, AllocError>
         ensures { IfOk result (λ locks. IsListing (held self.now file) locks.items) }
     {
-        let mut locks = Vec::new(*self.rows.allocator());
-        for row in rows_of(&self.rows, file) {
-            row.push_regions(&mut locks)?;
+        let mut locks = Vec::new(*self.blocks.allocator());
+        for block in blocks_of(&self.blocks, file) {
+            push_rows(block.rows(), file, &mut locks)?;
         }
         locks.sort_unstable_by(cmp_regions);
         Ok(locks)

@@ -9,7 +9,8 @@ use Rattle.model.specs.rule.Descriptors.{Processes}
 use Rattle.model.specs.rule.Limits.{IsNumber, most_processes}
 use Rattle.model.specs.rule.Locks.{with_lock}
 use Rattle.model.specs.rule.Table.{Table, descriptor, with_processes, closed_if, exited}
-use Rattle.lock_table.specs.code.Rows.{TableParts, HasRoom as HasRowRoom, HasRuns}
+use Rattle.lock_table.specs.code.Blocks.{Fits as LocksFit}
+use Rattle.lock_table.specs.code.Rows.{TableParts}
 use Rattle.token_set.specs.code.Edits.{edited as token_edited}
 use Rattle.messages.specs.rule.Messages.{greatest_number}
 use Rattle.messages.specs.declared.message.Message.{Message}
@@ -141,9 +142,7 @@ DraftFits p d = NumberFits (node_state p).calls d.numbered × CommandFits (node_
 abbrev pub RowsFit : List ProcessEntry → TableParts → NodeTableEdit → Type 0
 RowsFit rows locks Nothing = Unit {0}
 RowsFit rows locks (OfProcess e) = ProcessFits rows e
-RowsFit rows locks (OfLocks boxed) =
-    let e = boxed.value in
-    (e.room.items ≡ []) × HasRowRoom locks.rows e.file e.owner (vec_capacity e.room) × HasRuns locks.rows e.file e.owner e.write.runs
+RowsFit rows locks (OfLocks e) = LocksFit locks e.value
 RowsFit rows locks (Closes pid fd) = IsNumber most_processes pid × ((processes rows).runs pid ≡ true)
 RowsFit rows locks (Exits pid) = IsNumber most_processes pid × ((processes rows).runs pid ≡ true)
 

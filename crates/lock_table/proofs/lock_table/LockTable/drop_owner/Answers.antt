@@ -1,31 +1,37 @@
-use Rattle.std.proofs.Common.{length, arith}
+use Rattle.std.proofs.Common.{List}
 use Rattle.std.specs.List.{remove}
-use Rattle.std.specs.Vec.{vec_capacity}
-use Rattle.std.proofs.lemmas.List.Edits.{length-remove}
-use Rattle.lock_table.specs.code.Rows.{rows_held, IsRowAt, IsGap}
-use Rattle.lock_table.proofs.Places.{places_fewer}
+use Rattle.lock_table.specs.declared.owner_locks.OwnerLocks.{OwnerLocks}
+use Rattle.lock_table.specs.code.Rows.{all_rows, rows_held, IsRowAt, IsGap}
+use Rattle.lock_table.specs.code.Blocks.{rows_before, IsRowIn, IsGapIn}
 use Rattle.lock_table.proofs.RowLemmas.{held-remove, held-same, rows-remove, place_below}
+use Rattle.lock_table.proofs.BlockRows.{row_whole}
 use Rattle.lock_table.proofs.PageLemmas.{covers-without}
-use Rattle.lock_table.proofs.SameRows.{rows_are}
+use Rattle.lock_table.proofs.SameRows.{blocks_are}
 use Rattle.lock_table.proofs.lock_table.LockTable.drop_owner.Goals as goal
 
-pub remove-requires : goal.remove-requires
-remove-requires c = let lt = place_below _ _ _ _ c.in-Ok.ensures in omega arith
+pub remove_row-requires-clause-within : goal.remove_row-requires-clause-within
+remove_row-requires-clause-within c =
+    let blocks = c.self.inside.blocks.items in
+    let at : IsRowIn blocks c.in-Ok.place c.args.file c.args.owner = rw (← c.deref.ensures.value) c.in-Ok.ensures in
+    place_below _ _ _ _ at
 
 pub invariant_of-self : goal.invariant_of-self
 invariant_of-self c =
-    let rows = c.self.inside.rows.items in
-    let at : IsRowAt c.self.inside.rows.items c.in-Ok.i c.args.file c.args.owner = rw (← c.deref.ensures.value) c.in-Ok.ensures in
-    let fewer = length-remove rows c.in-Ok.i (place_below _ _ _ _ at) in
-    let enough = places_fewer (length (remove rows c.in-Ok.i)) (length rows) (vec_capacity c.self.inside.rows) (omega arith) c.self.invariant.2 in
-    rw c.remove.ensures.items (rows-remove rows c.in-Ok.i c.self.invariant.0, covers-without c.self.inside.index (rows_held rows) (rows_held (remove rows c.in-Ok.i)) c.args.file c.args.owner (held-remove rows c.in-Ok.i c.args.file c.args.owner c.self.invariant.0 at) c.self.invariant.1, rw c.remove.ensures.capacity enough)
+    let blocks = c.self.inside.blocks.items in
+    let rows = all_rows blocks in
+    let i = rows_before blocks c.in-Ok.place in
+    let at : IsRowIn blocks c.in-Ok.place c.args.file c.args.owner = rw (← c.deref.ensures.value) c.in-Ok.ensures in
+    let row : IsRowAt rows i c.args.file c.args.owner = row_whole blocks c.in-Ok.place c.args.file c.args.owner c.self.invariant.0 at in
+    rw c.remove_row.ensures.rows (rows-remove rows i c.self.invariant.0, c.remove_row.ensures.some, covers-without c.self.inside.index (rows_held rows) (rows_held (remove rows i)) c.args.file c.args.owner (held-remove rows i c.args.file c.args.owner c.self.invariant.0 row) c.self.invariant.2)
 
 pub returns-in-Ok-clause-locks : goal.returns-in-Ok-clause-locks
 returns-in-Ok-clause-locks c =
-    let at : IsRowAt c.self.inside.rows.items c.in-Ok.i c.args.file c.args.owner = rw (← c.deref.ensures.value) c.in-Ok.ensures in
-    rw (c.remove.ensures.items, ← (rows_are c.self.inside.rows.items c.self.inside.limit c.args.self.now c.self.view_is)) (λ j f o. held-remove _ _ _ _ c.self.invariant.0 at f o j)
+    let blocks = c.self.inside.blocks.items in
+    let at : IsRowIn blocks c.in-Ok.place c.args.file c.args.owner = rw (← c.deref.ensures.value) c.in-Ok.ensures in
+    let row = row_whole blocks c.in-Ok.place c.args.file c.args.owner c.self.invariant.0 at in
+    rw (c.remove_row.ensures.rows, ← (blocks_are c.self.inside.blocks.items c.self.inside.limit c.args.self.now c.self.view_is)) (λ j f o. held-remove _ _ _ _ c.self.invariant.0 row f o j)
 
 pub returns-in_default-clause-locks : goal.returns-in_default-clause-locks
 returns-in_default-clause-locks c =
-    let gap : IsGap c.args.self.now.rows c.in_default.field-0 c.args.file c.args.owner = rw (← (rows_are c.self.inside.rows.items c.self.inside.limit c.args.self.now c.self.view_is), ← c.deref.ensures.value) c.in_default.ensures in
-    λ j f o. held-same _ _ _ _ gap f o j
+    let gap : IsGapIn c.args.self.now.blocks c.in_default.field-0 c.args.file c.args.owner = rw (← (blocks_are c.self.inside.blocks.items c.self.inside.limit c.args.self.now c.self.view_is), ← c.deref.ensures.value) c.in_default.ensures in
+    λ j f o. held-same _ _ _ _ gap.gap f o j

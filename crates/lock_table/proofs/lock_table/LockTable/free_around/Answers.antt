@@ -1,68 +1,70 @@
-use Rattle.std.proofs.Common.{◌≡◌, ◌+◌, ◌<◌, ◌≤◌, List, length, take, subst, arith}
-use Rattle.std.proofs.lemmas.List.{take_all}
-use Rattle.std.proofs.lemmas.Bool.{both_ways}
-use Rattle.intervals.specs.rule.Bytes.{IsLargest}
-use Rattle.model.specs.rule.Locks.{FileLocks, IsRegion}
+use Rattle.std.proofs.Common.{◌≡◌, [], get_or, length, take, List, refl, subst, ◌∙◌, arith}
+use Rattle.std.proofs.lemmas.List.{get_or_default, take_all}
+use Rattle.model.specs.rule.Locks.{FileLocks, IsRegion, IsClear}
 use Rattle.lock_table.specs.declared.owner_locks.OwnerLocks.{OwnerLocks}
-use Rattle.lock_table.specs.code.Rows.{rows_held}
-use Rattle.lock_table.specs.code.Blockers.{HasInWay}
-use Rattle.lock_table.proofs.BlockerLemmas.{rows_step}
-use Rattle.lock_table.proofs.RowLemmas.{row_holds}
-use Rattle.lock_table.proofs.NearRows.{around_to}
-use Rattle.lock_table.proofs.PageLemmas.{none_near}
-use Rattle.lock_table.proofs.WayLemmas.{around-start, around-more, around-skip, none_barred}
-use Rattle.lock_table.proofs.SameRows.{rows_are}
+use Rattle.lock_table.specs.code.Rows.{all_rows, rows_held}
+use Rattle.intervals.specs.rule.Bytes.{IsLargest}
+use Rattle.lock_table.specs.code.Blockers.{AreNear, HasInWay}
+use Rattle.lock_table.proofs.BlockRows.{rows_of_block}
+use Rattle.lock_table.proofs.BlockJoins.{block_step, among_blocks}
+use Rattle.lock_table.proofs.PageLemmas.{near_from}
+use Rattle.lock_table.proofs.WayLemmas.{around-start, around-join, clear_among}
+use Rattle.lock_table.proofs.SameRows.{blocks_are}
 use Rattle.lock_table.proofs.lock_table.LockTable.free_around.Goals as goal
-use Rattle.lock_table.proofs.lock_table.LockTable.free_around.Goals.{then-has, else-has}
 
-pub loop-at-init : goal.loop-at-init
+pub loop-block-init : goal.loop-block-init
 unfolding rows_held
-loop-at-init c =
-    let rows = c.rows_of-rows.ensures in
-    let same : rows_held c.rows_of-rows.result.now c.args.file ≡ rows_held c.self.inside.rows.items c.args.file = rw (← c.deref.ensures.value) rows.held in
-    let next = c.next_near-at.ensures in
-    record {
-      within = next.within;
-      largest = around_to c.self.inside.index c.near-near.result c.self.inside.rows.items c.rows_of-rows.result.now c.args.file c.args.within c.self.invariant.1 c.near-near.ensures same rows.rows rows.file c.args.mode c.args.required c.args.within 0 c.next_near-at.result (omega arith) next.within next.passed (around-start c.args.mode c.args.required c.args.within c.requires.starts_within c.requires.ends_within);
-    }
+loop-block-init c = around-start c.args.mode c.args.required c.args.within c.requires.starts_within c.requires.ends_within
 
-pub largest_around-span-requires-clause-free : goal.largest_around-span-requires-clause-free
-largest_around-span-requires-clause-free c =
-    let rows = c.rows_of-rows.ensures in
-    let lt : c.loop-at.at < length c.rows_of-rows.result.now = omega arith in
-    let same : rows_held c.rows_of-rows.result.now c.args.file ≡ rows_held c.args.self.now.rows c.args.file = rw (← (rows_are c.self.inside.rows.items c.self.inside.limit c.args.self.now c.self.view_is), ← c.deref.ensures.value) rows.held in
-    rw c.bar.ensures (none_barred (rows_held c.args.self.now.rows c.args.file) c.rows_of-rows.result.now c.args.file c.loop-at.at c.index-rows-at.result c.args.required c.args.mode c.requires.clear same rows.rows rows.file lt c.index-rows-at.is)
+pub free_in-span-requires-clause-rows : goal.free_in-span-requires-clause-rows
+free_in-span-requires-clause-rows c =
+    let bs = c.blocks_of-block-items.result.now in
+    let i = c.loop-block.block-index in
+    let lt = c.loop-block-test.true in
+    let order = c.blocks_of-block-items.ensures.rows in
+    let own : c.rows.result.now ≡ get_or bs i [] = c.rows.ensures ∙ (c.block-item.is ∙ get_or_default bs i c.block-item.result [] lt) in
+    rw own (rows_of_block bs i order lt)
 
-pub loop-at-preserved : goal.loop-at-preserved
-loop-at-preserved c =
-    let rows = c.rows_of-rows.ensures in
-    let part = c.rows_of-rows.result.now in
-    let file = c.args.file in
-    let at = c.loop-at.at in
-    let row = c.index-rows-at.result in
-    let lt : at < length part = omega arith in
-    let is = c.index-rows-at.is in
-    let same : rows_held part file ≡ rows_held c.self.inside.rows.items file = rw (← c.deref.ensures.value) rows.held in
-    let join = rows_step part at row file rows.rows rows.file lt is in
-    let largest : IsLargest (HasInWay (IsRegion (rows_held (take (at + 1) part) file)) c.args.mode) c.args.required c.args.within c.if-has.span = elim c.if-has.branch [
-      | then-has w ↦
-          let bounded = (row_holds _ _ row rows.rows lt is).bounded in
-          rw w.span-is (around-more _ _ row join c.args.mode c.args.required c.args.within _ c.loop-at.invariant.largest _ (omega (arith, c.required.invariant)) bounded (rw (← w.bar.ensures) w.largest_around-span.ensures))
-      | else-has w ↦
-          let away = none_near c.self.inside.index c.near-near.result _ _ file at row c.args.within c.self.invariant.1 c.near-near.ensures same rows.rows rows.file lt is (λ has. both_ways _ w.if-has.false (c.has.ensures.1 has)) in
-          rw w.span-is (around-skip _ _ row join c.args.mode c.args.required c.args.within _ c.loop-at.invariant.largest away)
-    ] in
-    let next = c.next_near-at-in-loop-at.ensures in
-    record {
-      within = next.within;
-      largest = around_to c.self.inside.index c.near-near.result c.self.inside.rows.items part file c.args.within c.self.invariant.1 c.near-near.ensures same rows.rows rows.file c.args.mode c.args.required _ (at + 1) c.next_near-at-in-loop-at.result next.from next.within next.passed largest;
-    }
+pub free_in-span-requires-clause-near : goal.free_in-span-requires-clause-near
+free_in-span-requires-clause-near c =
+    let bs = c.blocks_of-block-items.result.now in
+    let i = c.loop-block.block-index in
+    let lt = c.loop-block-test.true in
+    let order = c.blocks_of-block-items.ensures.rows in
+    let own : c.rows.result.now ≡ get_or bs i [] = c.rows.ensures ∙ (c.block-item.is ∙ get_or_default bs i c.block-item.result [] lt) in
+    let all = all_rows c.self.inside.blocks.items in
+    let same : rows_held (all_rows bs) c.args.file ≡ rows_held all c.args.file = rw (← c.deref.ensures.value) c.blocks_of-block-items.ensures.held in
+    let among = among_blocks bs i c.args.file order lt (get_or bs i []) (rows_held all c.args.file) refl same in
+    let nearby : AreNear (rows_held (get_or bs i []) c.args.file) c.near-near.result c.args.within = near_from c.self.inside.index c.near-near.result (rows_held all) (rows_held (get_or bs i []) c.args.file) c.args.file c.args.within c.self.invariant.2 c.near-near.ensures among in
+    rw own (λ o b m lo hi at. nearby o b m (omega (arith, lo, c.loop-block.invariant.starts_within)) (omega (arith, hi, c.loop-block.invariant.ends_within)) at)
+
+pub free_in-span-requires-clause-clear : goal.free_in-span-requires-clause-clear
+free_in-span-requires-clause-clear c =
+    let bs = c.blocks_of-block-items.result.now in
+    let i = c.loop-block.block-index in
+    let lt = c.loop-block-test.true in
+    let order = c.blocks_of-block-items.ensures.rows in
+    let own : c.rows.result.now ≡ get_or bs i [] = c.rows.ensures ∙ (c.block-item.is ∙ get_or_default bs i c.block-item.result [] lt) in
+    let all = all_rows c.self.inside.blocks.items in
+    let same : rows_held (all_rows bs) c.args.file ≡ rows_held all c.args.file = rw (← c.deref.ensures.value) c.blocks_of-block-items.ensures.held in
+    let among = among_blocks bs i c.args.file order lt (get_or bs i []) (rows_held all c.args.file) refl same in
+    let clear : IsClear (rows_held all c.args.file) c.args.required c.args.mode = rw (blocks_are c.self.inside.blocks.items c.self.inside.limit c.args.self.now c.self.view_is) c.requires.clear in
+    rw own (clear_among (rows_held (get_or bs i []) c.args.file) (rows_held all c.args.file) c.args.required c.args.mode among clear)
+
+pub loop-block-preserved : goal.loop-block-preserved
+loop-block-preserved c =
+    let bs = c.blocks_of-block-items.result.now in
+    let i = c.loop-block.block-index in
+    let lt = c.loop-block-test.true in
+    let order = c.blocks_of-block-items.ensures.rows in
+    let own : c.rows.result.now ≡ get_or bs i [] = c.rows.ensures ∙ (c.block-item.is ∙ get_or_default bs i c.block-item.result [] lt) in
+    let here : IsLargest (HasInWay (IsRegion (rows_held (get_or bs i []) c.args.file)) c.args.mode) c.args.required c.loop-block.span c.free_in-span.result = rw own at c.free_in-span.ensures in
+    around-join _ _ _ (block_step bs i c.args.file order lt) c.args.mode c.args.required c.args.within c.loop-block.span c.free_in-span.result (omega (arith, c.required.invariant)) c.loop-block.invariant here
 
 pub returns : goal.returns
 returns c =
     let file = c.args.file in
-    let part = c.rows_of-rows.result.now in
-    let same : rows_held part file ≡ rows_held c.args.self.now.rows file = rw (← (rows_are c.self.inside.rows.items c.self.inside.limit c.args.self.now c.self.view_is), ← c.deref.ensures.value) c.rows_of-rows.ensures.held in
-    let past : length part ≤ c.loop-at.at = omega arith in
-    let all = subst (λ (rows : List OwnerLocks). IsLargest (HasInWay (IsRegion (rows_held rows file)) c.args.mode) c.args.required c.args.within c.loop-at.span) (take_all _ _ past) c.loop-at.invariant.largest in
-    subst (λ (h : FileLocks). IsLargest (HasInWay (IsRegion h) c.args.mode) c.args.required c.args.within c.loop-at.span) same all
+    let bs = c.blocks_of-block-items.result.now in
+    let same : rows_held (all_rows bs) file ≡ rows_held (all_rows c.args.self.now.blocks) file = rw (← (blocks_are c.self.inside.blocks.items c.self.inside.limit c.args.self.now c.self.view_is), ← c.deref.ensures.value) c.blocks_of-block-items.ensures.held in
+    let all = rw (take_all _ _ c.loop-block-test.false) at c.loop-block.invariant in
+    subst (λ (h : FileLocks). IsLargest (HasInWay (IsRegion h) c.args.mode) c.args.required c.args.within c.loop-block.span) same all

@@ -1,56 +1,56 @@
-use Rattle.std.proofs.Common.{◌≡◌, ◌+◌, ◌<◌, ◌≤◌, List, length, take, subst, None, arith}
-use Rattle.std.proofs.lemmas.List.{take_all}
-use Rattle.model.specs.rule.Locks.{FileLocks}
+use Rattle.std.proofs.Common.{◌≡◌, [], get_or, length, take, List, refl, subst, ◌∙◌, arith}
+use Rattle.std.proofs.lemmas.List.{get_or_default, take_all}
+use Rattle.model.specs.rule.Locks.{FileLocks, IsRegion, IsClear}
 use Rattle.lock_table.specs.declared.owner_locks.OwnerLocks.{OwnerLocks}
-use Rattle.lock_table.specs.code.Rows.{rows_held}
-use Rattle.lock_table.specs.code.Blockers.{IsLowestBut}
-use Rattle.lock_table.proofs.BlockerLemmas.{lowest_none, lowest_join, lowest_past, row_passed, rows_step}
-use Rattle.lock_table.proofs.NearRows.{lowest_to}
-use Rattle.lock_table.proofs.PageLemmas.{none_near}
-use Rattle.lock_table.proofs.SameRows.{rows_are}
+use Rattle.lock_table.specs.code.Rows.{all_rows, rows_held}
+use Rattle.lock_table.specs.code.Blockers.{AreNear, IsLowestBut}
+use Rattle.lock_table.proofs.BlockerLemmas.{lowest_none, lowest_join}
+use Rattle.lock_table.proofs.BlockRows.{rows_of_block}
+use Rattle.lock_table.proofs.BlockJoins.{block_step, among_blocks}
+use Rattle.lock_table.proofs.PageLemmas.{near_from}
+use Rattle.lock_table.proofs.SameRows.{blocks_are}
 use Rattle.lock_table.proofs.lock_table.LockTable.lowest_but.Goals as goal
-use Rattle.lock_table.proofs.lock_table.LockTable.lowest_but.Goals.{then-may_bar, else-may_bar}
 
-pub loop-at-init : goal.loop-at-init
+pub loop-block-init : goal.loop-block-init
 unfolding rows_held
-loop-at-init c =
-    let rows = c.rows_of-rows.ensures in
-    let same : rows_held c.rows_of-rows.result.now c.args.file ≡ rows_held c.self.inside.rows.items c.args.file = rw (← c.deref.ensures.value) rows.held in
-    let next = c.next_near-at.ensures in
-    record {
-      within = next.within;
-      lowest = lowest_to c.self.inside.index c.near-near.result c.self.inside.rows.items c.rows_of-rows.result.now c.args.file c.args.span c.self.invariant.1 c.near-near.ensures same rows.rows rows.file c.args.out.now c.args.mode None 0 c.next_near-at.result (omega arith) next.within next.passed (lowest_none _ _ _);
-    }
+loop-block-init c = lowest_none _ _ _
 
-pub loop-at-preserved : goal.loop-at-preserved
-loop-at-preserved c =
-    let rows = c.rows_of-rows.ensures in
-    let part = c.rows_of-rows.result.now in
-    let same : rows_held part c.args.file ≡ rows_held c.self.inside.rows.items c.args.file = rw (← c.deref.ensures.value) rows.held in
-    let at = c.loop-at.at in
-    let row = c.index-rows-at.result in
-    let lt : at < length part = omega arith in
-    let is = c.index-rows-at.is in
-    let join = rows_step part at row c.args.file rows.rows rows.file lt is in
-    let lowest : IsLowestBut (rows_held (take (at + 1) part) c.args.file) c.args.out.now c.args.span c.args.mode c.if-may_bar.lowest = elim c.if-may_bar.branch [
-      | then-may_bar w ↦
-          let found = w.lowest_of-lowest.ensures in
-          rw w.lowest-is (lowest_join _ _ _ join _ _ _ _ _ _ c.loop-at.invariant.lowest w.lowest_but.ensures found.either found.first found.second)
-      | else-may_bar w ↦
-          rw w.lowest-is (lowest_past _ _ _ join c.args.out.now c.args.span c.args.mode _ c.loop-at.invariant.lowest (row_passed row c.args.out.now c.args.span c.args.mode (λ b m lo hi at_byte barred.
-          none_near c.self.inside.index c.near-near.result _ _ c.args.file at row c.args.span c.self.invariant.1 c.near-near.ensures same rows.rows rows.file lt is (λ has. c.may_bar.ensures w.if-may_bar.false has b (rw c.bar-bar.ensures barred)) b m lo hi at_byte)))
-    ] in
-    let next = c.next_near-at-in-loop-at.ensures in
-    record {
-      within = next.within;
-      lowest = lowest_to c.self.inside.index c.near-near.result c.self.inside.rows.items part c.args.file c.args.span c.self.invariant.1 c.near-near.ensures same rows.rows rows.file c.args.out.now c.args.mode _ (at + 1) c.next_near-at-in-loop-at.result next.from next.within next.passed lowest;
-    }
+pub lowest_in-found-requires-clause-rows : goal.lowest_in-found-requires-clause-rows
+lowest_in-found-requires-clause-rows c =
+    let bs = c.blocks_of-block-items.result.now in
+    let i = c.loop-block.block-index in
+    let lt = c.loop-block-test.true in
+    let order = c.blocks_of-block-items.ensures.rows in
+    let own : c.rows.result.now ≡ get_or bs i [] = c.rows.ensures ∙ (c.block-item.is ∙ get_or_default bs i c.block-item.result [] lt) in
+    rw own (rows_of_block bs i order lt)
+
+pub lowest_in-found-requires-clause-near : goal.lowest_in-found-requires-clause-near
+lowest_in-found-requires-clause-near c =
+    let bs = c.blocks_of-block-items.result.now in
+    let i = c.loop-block.block-index in
+    let lt = c.loop-block-test.true in
+    let order = c.blocks_of-block-items.ensures.rows in
+    let own : c.rows.result.now ≡ get_or bs i [] = c.rows.ensures ∙ (c.block-item.is ∙ get_or_default bs i c.block-item.result [] lt) in
+    let all = all_rows c.self.inside.blocks.items in
+    let same : rows_held (all_rows bs) c.args.file ≡ rows_held all c.args.file = rw (← c.deref.ensures.value) c.blocks_of-block-items.ensures.held in
+    let among = among_blocks bs i c.args.file order lt (get_or bs i []) (rows_held all c.args.file) refl same in
+    rw own (near_from c.self.inside.index c.near-near.result (rows_held all) (rows_held (get_or bs i []) c.args.file) c.args.file c.args.span c.self.invariant.2 c.near-near.ensures among)
+
+pub loop-block-preserved : goal.loop-block-preserved
+loop-block-preserved c =
+    let bs = c.blocks_of-block-items.result.now in
+    let i = c.loop-block.block-index in
+    let lt = c.loop-block-test.true in
+    let order = c.blocks_of-block-items.ensures.rows in
+    let own : c.rows.result.now ≡ get_or bs i [] = c.rows.ensures ∙ (c.block-item.is ∙ get_or_default bs i c.block-item.result [] lt) in
+    let found = c.lowest_of-lowest.ensures in
+    let here : IsLowestBut (rows_held (get_or bs i []) c.args.file) c.args.out.now c.args.span c.args.mode c.lowest_in-found.result = rw own at c.lowest_in-found.ensures in
+    lowest_join _ _ _ (block_step bs i c.args.file order lt) c.args.out.now c.args.span c.args.mode _ _ _ c.loop-block.invariant here found.either found.first found.second
 
 pub returns : goal.returns
 returns c =
     let file = c.args.file in
-    let part = c.rows_of-rows.result.now in
-    let same : rows_held part file ≡ rows_held c.args.self.now.rows file = rw (← (rows_are c.self.inside.rows.items c.self.inside.limit c.args.self.now c.self.view_is), ← c.deref.ensures.value) c.rows_of-rows.ensures.held in
-    let past : length part ≤ c.loop-at.at = omega arith in
-    let all = subst (λ (rows : List OwnerLocks). IsLowestBut (rows_held rows file) c.args.out.now c.args.span c.args.mode c.loop-at.lowest) (take_all _ _ past) c.loop-at.invariant.lowest in
-    subst (λ (h : FileLocks). IsLowestBut h c.args.out.now c.args.span c.args.mode c.loop-at.lowest) same all
+    let bs = c.blocks_of-block-items.result.now in
+    let same : rows_held (all_rows bs) file ≡ rows_held (all_rows c.args.self.now.blocks) file = rw (← (blocks_are c.self.inside.blocks.items c.self.inside.limit c.args.self.now c.self.view_is), ← c.deref.ensures.value) c.blocks_of-block-items.ensures.held in
+    let all = rw (take_all _ _ c.loop-block-test.false) at c.loop-block.invariant in
+    subst (λ (h : FileLocks). IsLowestBut h c.args.out.now c.args.span c.args.mode c.loop-block.lowest) same all

@@ -1,59 +1,80 @@
-use Rattle.std.proofs.Common.{ap, length, arith}
-use Rattle.std.proofs.lemmas.Bool.{both_ways}
-use Rattle.std.specs.List.{remove}
-use Rattle.std.specs.Vec.{vec_capacity}
-use Rattle.std.proofs.lemmas.List.{length-set}
-use Rattle.std.proofs.lemmas.List.Edits.{length-remove}
-use Rattle.intervals.specs.code.Runs.{value_at}
+use Rattle.std.proofs.Common.{◌≡◌, [], get_or, length, List, ap, subst, arith}
 use Rattle.lock_table.specs.declared.owner_locks.OwnerLocks.{OwnerLocks}
-use Rattle.lock_table.specs.code.Rows.{HasRuns, HoldsSome, IsRowAt}
-use Rattle.lock_table.proofs.Places.{places_fewer}
+use Rattle.lock_table.specs.code.Blocks.{IsRowIn, RunsFit, IsRowWritten}
 use Rattle.lock_table.proofs.RowLemmas.{place_below}
-use Rattle.lock_table.proofs.Writes.{remove-set, row_set, row_gone}
-use Rattle.lock_table.proofs.SameRows.{rows_are}
+use Rattle.lock_table.proofs.BlockWrites.{own_block, written_some, written_within, written_kept, written_gone}
+use Rattle.lock_table.proofs.SameRows.{blocks_are}
 use Rattle.lock_table.proofs.lock_table.LockTable.write_row.Goals as goal
 
-pub index_mut-row-requires : goal.index_mut-row-requires
-index_mut-row-requires c = let lt = place_below _ _ _ _ c.requires.row in omega (arith, lt, ap length (rows_are c.self.inside.rows.items c.self.inside.limit c.args.self.now c.self.view_is))
+pub write-requires : goal.write-requires
+write-requires c =
+    let blocks = c.self.inside.blocks.items in
+    let place = c.args.place in
+    let at : IsRowIn blocks place c.args.file c.args.owner = rw (blocks_are c.self.inside.blocks.items c.self.inside.limit c.args.self.now c.self.view_is) c.requires.row in
+    let own : c.index_mut.result.now ≡ get_or blocks place.block [] = own_block blocks place c.args.file c.args.owner c.index_mut.result.now at c.index_mut.ensures.value in
+    let lt = place_below _ _ _ _ at in
+    omega (arith, lt, ap length own)
 
-pub remove-requires : goal.remove-requires
-remove-requires c =
-    let row : OwnerLocks = record c.index_mut-row.result.now { spans = c.apply.new.self } in
-    let lt = place_below _ _ _ _ c.requires.row in
-    omega (arith, lt, ap length (rows_are c.self.inside.rows.items c.self.inside.limit c.args.self.now c.self.view_is), length-set c.self.inside.rows.items c.args.place row)
+pub remove_row-requires-clause-within : goal.remove_row-requires-clause-within
+remove_row-requires-clause-within c =
+    let blocks = c.self.inside.blocks.items in
+    let place = c.args.place in
+    let at : IsRowIn blocks place c.args.file c.args.owner = rw (blocks_are c.self.inside.blocks.items c.self.inside.limit c.args.self.now c.self.view_is) c.requires.row in
+    let own : c.index_mut.result.now ≡ get_or blocks place.block [] = own_block blocks place c.args.file c.args.owner c.index_mut.result.now at c.index_mut.ensures.value in
+    let few : RunsFit blocks place c.args.write.runs = rw (blocks_are c.self.inside.blocks.items c.self.inside.limit c.args.self.now c.self.view_is) c.requires.runs in
+    let w : IsRowWritten (get_or blocks place.block []) c.write.new.self place.row c.args.write c.write.result = subst (λ (l : List OwnerLocks). IsRowWritten l c.write.new.self place.row c.args.write c.write.result) own c.write.ensures in
+    written_within blocks place c.args.file c.args.owner c.args.write c.write.new.self c.write.result c.self.invariant.0 at few w
+
+pub remove_row-requires-clause-some : goal.remove_row-requires-clause-some
+remove_row-requires-clause-some c =
+    let blocks = c.self.inside.blocks.items in
+    let place = c.args.place in
+    let at : IsRowIn blocks place c.args.file c.args.owner = rw (blocks_are c.self.inside.blocks.items c.self.inside.limit c.args.self.now c.self.view_is) c.requires.row in
+    let own : c.index_mut.result.now ≡ get_or blocks place.block [] = own_block blocks place c.args.file c.args.owner c.index_mut.result.now at c.index_mut.ensures.value in
+    let few : RunsFit blocks place c.args.write.runs = rw (blocks_are c.self.inside.blocks.items c.self.inside.limit c.args.self.now c.self.view_is) c.requires.runs in
+    let w : IsRowWritten (get_or blocks place.block []) c.write.new.self place.row c.args.write c.write.result = subst (λ (l : List OwnerLocks). IsRowWritten l c.write.new.self place.row c.args.write c.write.result) own c.write.ensures in
+    written_some blocks place c.args.file c.args.owner c.args.write c.write.new.self c.write.result c.self.invariant.0 at few w c.self.invariant.1
 
 pub invariant_of-self : goal.invariant_of-self
 invariant_of-self c =
-    let rows = c.self.inside.rows.items in
-    let at : IsRowAt rows c.args.place c.args.file c.args.owner = rw (rows_are c.self.inside.rows.items c.self.inside.limit c.args.self.now c.self.view_is) c.requires.row in
-    let few : HasRuns rows c.args.file c.args.owner c.args.write.runs = rw (rows_are c.self.inside.rows.items c.self.inside.limit c.args.self.now c.self.view_is) c.requires.runs in
-    let some : HoldsSome (value_at c.apply.new.self) = record { some = λ none. both_ways _ c.if-not-is_empty.true (c.is_empty.ensures.empty.1 none); bounded = c.is_empty.ensures.bounded } in
-    let left = row_set c.self.inside.index c.note_write.new.self rows c.args.place c.args.file c.args.owner c.args.write (c.self.invariant.0, c.self.invariant.1) c.note_write.ensures.keeps c.note_write.ensures.noted c.index_mut-row.result.now c.apply.new.self at c.index_mut-row.ensures.value few c.apply.ensures some in
-    (left.0, left.1, rw (length-set rows c.args.place (record c.index_mut-row.result.now { spans = c.apply.new.self })) c.self.invariant.2)
+    let blocks = c.self.inside.blocks.items in
+    let place = c.args.place in
+    let at : IsRowIn blocks place c.args.file c.args.owner = rw (blocks_are c.self.inside.blocks.items c.self.inside.limit c.args.self.now c.self.view_is) c.requires.row in
+    let own : c.index_mut.result.now ≡ get_or blocks place.block [] = own_block blocks place c.args.file c.args.owner c.index_mut.result.now at c.index_mut.ensures.value in
+    let few : RunsFit blocks place c.args.write.runs = rw (blocks_are c.self.inside.blocks.items c.self.inside.limit c.args.self.now c.self.view_is) c.requires.runs in
+    let w : IsRowWritten (get_or blocks place.block []) c.write.new.self place.row c.args.write c.write.result = subst (λ (l : List OwnerLocks). IsRowWritten l c.write.new.self place.row c.args.write c.write.result) own c.write.ensures in
+    let left = written_gone blocks place c.args.file c.args.owner c.args.write c.write.new.self c.write.result c.self.invariant.0 at few w c.self.inside.index c.note_write.new.self c.self.invariant.2 c.note_write.ensures.keeps c.note_write.ensures.noted c.if-write.true in
+    rw c.remove_row.ensures.rows (left.0, c.remove_row.ensures.some, left.1)
 
-pub returns-then-not-is_empty-clause-locks : goal.returns-then-not-is_empty-clause-locks
-returns-then-not-is_empty-clause-locks c =
-    let rows = c.self.inside.rows.items in
-    let at : IsRowAt rows c.args.place c.args.file c.args.owner = rw (rows_are c.self.inside.rows.items c.self.inside.limit c.args.self.now c.self.view_is) c.requires.row in
-    let few : HasRuns rows c.args.file c.args.owner c.args.write.runs = rw (rows_are c.self.inside.rows.items c.self.inside.limit c.args.self.now c.self.view_is) c.requires.runs in
-    let some : HoldsSome (value_at c.apply.new.self) = record { some = λ none. both_ways _ c.if-not-is_empty.true (c.is_empty.ensures.empty.1 none); bounded = c.is_empty.ensures.bounded } in
-    let left = row_set c.self.inside.index c.note_write.new.self rows c.args.place c.args.file c.args.owner c.args.write (c.self.invariant.0, c.self.invariant.1) c.note_write.ensures.keeps c.note_write.ensures.noted c.index_mut-row.result.now c.apply.new.self at c.index_mut-row.ensures.value few c.apply.ensures some in
-    rw (← (rows_are c.self.inside.rows.items c.self.inside.limit c.args.self.now c.self.view_is)) (λ j f o. left.2 f o j)
+pub invariant_of-self-else-write : goal.invariant_of-self-else-write
+invariant_of-self-else-write c =
+    let blocks = c.self.inside.blocks.items in
+    let place = c.args.place in
+    let at : IsRowIn blocks place c.args.file c.args.owner = rw (blocks_are c.self.inside.blocks.items c.self.inside.limit c.args.self.now c.self.view_is) c.requires.row in
+    let own : c.index_mut.result.now ≡ get_or blocks place.block [] = own_block blocks place c.args.file c.args.owner c.index_mut.result.now at c.index_mut.ensures.value in
+    let few : RunsFit blocks place c.args.write.runs = rw (blocks_are c.self.inside.blocks.items c.self.inside.limit c.args.self.now c.self.view_is) c.requires.runs in
+    let w : IsRowWritten (get_or blocks place.block []) c.write.new.self place.row c.args.write c.write.result = subst (λ (l : List OwnerLocks). IsRowWritten l c.write.new.self place.row c.args.write c.write.result) own c.write.ensures in
+    let left = written_kept blocks place c.args.file c.args.owner c.args.write c.write.new.self c.write.result c.self.invariant.0 at few w c.self.inside.index c.note_write.new.self c.self.invariant.2 c.note_write.ensures.keeps c.note_write.ensures.noted c.if-write.false in
+    (left.0, written_some blocks place c.args.file c.args.owner c.args.write c.write.new.self c.write.result c.self.invariant.0 at few w c.self.invariant.1, left.1)
 
-pub invariant_of-self-2 : goal.invariant_of-self-2
-invariant_of-self-2 c =
-    let rows = c.self.inside.rows.items in
-    let at : IsRowAt rows c.args.place c.args.file c.args.owner = rw (rows_are c.self.inside.rows.items c.self.inside.limit c.args.self.now c.self.view_is) c.requires.row in
-    let few : HasRuns rows c.args.file c.args.owner c.args.write.runs = rw (rows_are c.self.inside.rows.items c.self.inside.limit c.args.self.now c.self.view_is) c.requires.runs in
-    let left = row_gone c.self.inside.index c.note_write.new.self rows c.args.place c.args.file c.args.owner c.args.write (c.self.invariant.0, c.self.invariant.1) c.note_write.ensures.keeps c.note_write.ensures.noted c.index_mut-row.result.now c.apply.new.self at c.index_mut-row.ensures.value few c.apply.ensures (c.is_empty.ensures.empty.0 c.if-not-is_empty.false) in
-    let fewer = length-remove rows c.args.place (place_below _ _ _ _ at) in
-    let enough = places_fewer (length (remove rows c.args.place)) (length rows) (vec_capacity c.self.inside.rows) (omega arith) c.self.invariant.2 in
-    rw (c.remove.ensures.items, remove-set rows c.args.place (record c.index_mut-row.result.now { spans = c.apply.new.self })) (left.0, left.1, rw c.remove.ensures.capacity enough)
+pub returns-then-write-clause-locks : goal.returns-then-write-clause-locks
+returns-then-write-clause-locks c =
+    let blocks = c.self.inside.blocks.items in
+    let place = c.args.place in
+    let at : IsRowIn blocks place c.args.file c.args.owner = rw (blocks_are c.self.inside.blocks.items c.self.inside.limit c.args.self.now c.self.view_is) c.requires.row in
+    let own : c.index_mut.result.now ≡ get_or blocks place.block [] = own_block blocks place c.args.file c.args.owner c.index_mut.result.now at c.index_mut.ensures.value in
+    let few : RunsFit blocks place c.args.write.runs = rw (blocks_are c.self.inside.blocks.items c.self.inside.limit c.args.self.now c.self.view_is) c.requires.runs in
+    let w : IsRowWritten (get_or blocks place.block []) c.write.new.self place.row c.args.write c.write.result = subst (λ (l : List OwnerLocks). IsRowWritten l c.write.new.self place.row c.args.write c.write.result) own c.write.ensures in
+    let left = written_gone blocks place c.args.file c.args.owner c.args.write c.write.new.self c.write.result c.self.invariant.0 at few w c.self.inside.index c.note_write.new.self c.self.invariant.2 c.note_write.ensures.keeps c.note_write.ensures.noted c.if-write.true in
+    rw (c.remove_row.ensures.rows, ← (blocks_are c.self.inside.blocks.items c.self.inside.limit c.args.self.now c.self.view_is)) (λ j f o. left.2 f o j)
 
-pub returns-clause-locks : goal.returns-clause-locks
-returns-clause-locks c =
-    let rows = c.self.inside.rows.items in
-    let at : IsRowAt rows c.args.place c.args.file c.args.owner = rw (rows_are c.self.inside.rows.items c.self.inside.limit c.args.self.now c.self.view_is) c.requires.row in
-    let few : HasRuns rows c.args.file c.args.owner c.args.write.runs = rw (rows_are c.self.inside.rows.items c.self.inside.limit c.args.self.now c.self.view_is) c.requires.runs in
-    let left = row_gone c.self.inside.index c.note_write.new.self rows c.args.place c.args.file c.args.owner c.args.write (c.self.invariant.0, c.self.invariant.1) c.note_write.ensures.keeps c.note_write.ensures.noted c.index_mut-row.result.now c.apply.new.self at c.index_mut-row.ensures.value few c.apply.ensures (c.is_empty.ensures.empty.0 c.if-not-is_empty.false) in
-    rw (c.remove.ensures.items, remove-set rows c.args.place (record c.index_mut-row.result.now { spans = c.apply.new.self }), ← (rows_are c.self.inside.rows.items c.self.inside.limit c.args.self.now c.self.view_is)) (λ j f o. left.2 f o j)
+pub returns-else-write-clause-locks : goal.returns-else-write-clause-locks
+returns-else-write-clause-locks c =
+    let blocks = c.self.inside.blocks.items in
+    let place = c.args.place in
+    let at : IsRowIn blocks place c.args.file c.args.owner = rw (blocks_are c.self.inside.blocks.items c.self.inside.limit c.args.self.now c.self.view_is) c.requires.row in
+    let own : c.index_mut.result.now ≡ get_or blocks place.block [] = own_block blocks place c.args.file c.args.owner c.index_mut.result.now at c.index_mut.ensures.value in
+    let few : RunsFit blocks place c.args.write.runs = rw (blocks_are c.self.inside.blocks.items c.self.inside.limit c.args.self.now c.self.view_is) c.requires.runs in
+    let w : IsRowWritten (get_or blocks place.block []) c.write.new.self place.row c.args.write c.write.result = subst (λ (l : List OwnerLocks). IsRowWritten l c.write.new.self place.row c.args.write c.write.result) own c.write.ensures in
+    let left = written_kept blocks place c.args.file c.args.owner c.args.write c.write.new.self c.write.result c.self.invariant.0 at few w c.self.inside.index c.note_write.new.self c.self.invariant.2 c.note_write.ensures.keeps c.note_write.ensures.noted c.if-write.false in
+    rw (← (blocks_are c.self.inside.blocks.items c.self.inside.limit c.args.self.now c.self.view_is)) (λ j f o. left.2 f o j)

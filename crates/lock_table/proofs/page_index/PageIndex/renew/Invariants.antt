@@ -1,12 +1,10 @@
-use Rattle.std.proofs.Common.{◌≡◌, ℕ, ◌⊎◌, drop, Some}
-use Rattle.model.specs.declared.mode.Mode.{Mode}
-use Rattle.model.specs.declared.owner.Owner.{Owner}
-use Rattle.lock_table.specs.code.Rows.{rows_held}
-use Rattle.lock_table.specs.code.Pages.{IsKept, MayHold}
+use Rattle.std.proofs.Common.{take}
+use Rattle.lock_table.specs.code.Rows.{all_rows, rows_held}
+use Rattle.lock_table.specs.code.Pages.{IsKept, Covers}
 use Rattle.lock_table.proofs.page_index.PageIndex.renew.Given as goal
 
-abbrev pub invariant-loop-row : goal.invariant-loop-row
-invariant-loop-row l = record {
+abbrev pub invariant-loop-block : goal.invariant-loop-block
+invariant-loop-block l = record {
   kept : IsKept l.self;
-  covers : (f : ℕ) (o : Owner) (b : ℕ) (m : Mode) → rows_held l.rows f o b ≡ Some m → MayHold l.self f o b ⊎ (rows_held (drop l.row-index l.rows) f o b ≡ Some m);
+  covers : Covers l.self (rows_held (all_rows (take l.block-index l.blocks)));
 }
