@@ -15,7 +15,7 @@ ghost use Rattle.token_set.specs.code.Runs.{NothingFrom, IsNextRun};
 
 use crate::edit::TokenEdit;
 use crate::gave_up::GaveUp;
-use intervals::span::{GREATEST, Span};
+use intervals::span::Span;
 use intervals::span_edit::SpanEdit;
 use intervals::span_map::SpanMap;
 use intervals::tree_map::TreeMap;
@@ -171,15 +171,12 @@ fn is_served(write: &SpanEdit<Level>, span: Span, mode: Mode) -> bool
 fn run_from(levels: &Levels, from: u64) -> Option<(Span, Level)>
     ensures { MatchOption result (NothingFrom (token_of levels.now) from) (λ run. IsNextRun (token_of levels.now) from run.0 run.1) }
 {
-    if levels.is_empty() || from > GREATEST {
-        return None;
-    }
-    let rest = Span {
-        lo: from,
-        hi: GREATEST,
+    let run = levels.next(from)?;
+    let span = Span {
+        lo: run.lo,
+        hi: run.hi,
     };
-    let byte = levels.first_where(rest, None)?;
-    levels.run_at(byte)
+    Some((span, run.value))
 }
 
 impl TokenSet {

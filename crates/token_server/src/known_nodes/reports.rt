@@ -29,7 +29,7 @@ pub fn token_told(alloc: Global, runs: &TokenRuns) -> Result<TokenSet, AllocErro
 {
     let mut token = TokenSet::new(alloc);
     let runs = runs.as_slice();
-    for place in (0..runs.len()).rev() {
+    for place in 0..runs.len() {
         let run = runs[place];
         let span = run.span;
         let _ = &span.lo; // tells the proof that the span has a byte

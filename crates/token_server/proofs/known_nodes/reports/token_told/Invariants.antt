@@ -1,9 +1,8 @@
-use Rattle.std.specs.Prelude.{◌≡◌, All}
-use Rattle.std.proofs.Common.{drop}
+use Rattle.std.specs.Prelude.{◌≡◌, All, take}
 use Rattle.token_set.specs.code.Sets.{token_of}
 use Rattle.messages.specs.rule.Reports.{reported}
 use Rattle.token_server.proofs.ReportLaws.{HasByte}
 use Rattle.token_server.proofs.known_nodes.reports.token_told.Given as goal
 
 abbrev pub invariant-loop-place : goal.invariant-loop-place
-invariant-loop-place l = (token_of l.token ≡ reported (drop l.place l.runs)) × All HasByte (drop l.place l.runs)
+invariant-loop-place l = (token_of l.token ≡ reported (take l.place l.runs)) × All HasByte (take l.place l.runs)
