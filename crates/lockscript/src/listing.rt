@@ -158,7 +158,7 @@ pub fn push_item(out: &mut String, item: &Item) -> Result<(), AllocError>
             reply,
         } => {
             push_placed(out, u64::from(*position), id)?;
-            push_number(out, *pid)?;
+            push_number(out, u64::from(*pid))?;
             out.push_str(" ")?;
             Operation::write(op, out)?;
             out.push_str(" -> ")?;

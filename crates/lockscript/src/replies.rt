@@ -17,7 +17,7 @@ pub fn push_reply(out: &mut String, reply: &Reply) -> Result<(), AllocError>
         Reply::Done => out.push_str("done"),
         Reply::Fd(fd) => {
             out.push_str("fd ")?;
-            push_number(out, *fd)
+            push_number(out, u64::from(*fd))
         }
         Reply::Again(lock) => {
             out.push_str("again ")?;

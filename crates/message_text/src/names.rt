@@ -34,9 +34,9 @@ fn letter_of(kind: Kind) -> &'static str
 pub fn push_host(out: &mut String, node: u8, incarnation: u16) -> Result<(), AllocError>
     ensures { OnOk result (string_bytes out.new ≡ string_bytes out.old ++ host_text node incarnation) }
 {
-    push_number(out, node)?;
+    push_number(out, u64::from(node))?;
     out.push_str(".")?;
-    push_number(out, incarnation)
+    push_number(out, u64::from(incarnation))
 }
 
 /// Adds the name of a call, `N.I.C`.
@@ -45,7 +45,7 @@ pub fn push_call(out: &mut String, call: &CallId) -> Result<(), AllocError>
 {
     push_host(out, call.node, call.incarnation)?;
     out.push_str(".")?;
-    push_number(out, call.number)
+    push_number(out, u64::from(call.number))
 }
 
 /// Adds the name of an owner: `pPID@N.I` for a process, `dNUMBER@N.I` for an open file description.
@@ -53,7 +53,7 @@ pub fn push_owner(out: &mut String, owner: &Owner) -> Result<(), AllocError>
     ensures { OnOk result (string_bytes out.new ≡ string_bytes out.old ++ owner_text owner.now) }
 {
     out.push_str(letter_of(owner.kind))?;
-    push_number(out, owner.number)?;
+    push_number(out, u64::from(owner.number))?;
     out.push_str("@")?;
     push_host(out, owner.node, owner.incarnation)
 }

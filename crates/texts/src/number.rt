@@ -1,14 +1,14 @@
 //! Numbers in texts: decimal, without leading zeros and without a leading `+`.
 //!
 //! Each function here that can fail errs with `AllocError`, where a request for memory was refused.
-ghost use Rattle.std.specs.Prelude.{◌≡◌, ◌<◌, ◌++◌, ◌^◌, min, decimal, string_bytes, FitsSigned, MatchBool, OnOk};
+ghost use Rattle.std.specs.Prelude.{◌≡◌, ◌<◌, ◌++◌, ◌∷◌, [], ◌^◌, min, decimal, string_bytes, FitsSigned, MatchBool, OnOk};
 ghost use Rattle.std.specs.Fmt.{signed_decimal};
 ghost use Rattle.std.specs.Int.{w64};
 ghost use Rattle.texts.specs.rule.Reads.{IsPlain, IsPlainSigned, IsWithin, Reads};
 
 use crate::text::{Text, Word};
 use crate::unsigned::Unsigned;
-use itoa::{Buffer, Integer};
+use itoa::Buffer;
 use std::alloc::AllocError;
 use std::marker::PhantomData;
 
@@ -23,10 +23,25 @@ fn is_plain(word: &str) -> bool
     }
 }
 
-// The number whose decimal text the word is, without leading zeros and without a leading `+`.
+// The number whose decimal text is that byte alone, if the byte is an ASCII digit.
+fn digit_of(byte: u8) -> Option<u64>
+    ensures { Reads decimal (λ n. n < 2 ^ 64) (byte ∷ []) result }
+{
+    if byte.is_ascii_digit() {
+        Some(u64::from(byte - b'0'))
+    } else {
+        None
+    }
+}
+
+// The number whose decimal text the word is, without leading zeros and without a leading `+`. A
+// word of one digit, as most nodes, processes and descriptors are, is read faster alone.
 fn natural_of(word: &str) -> Option<u64>
     ensures { Reads decimal (λ n. n < 2 ^ 64) word.now result }
 {
+    if let [digit] = word.as_bytes() {
+        return digit_of(*digit);
+    }
     match word.parse::<u64>() {
         Ok(number) => { if is_plain(word) { Some(number) } else { None } }
         Err(_) => None,
@@ -80,10 +95,14 @@ pub fn offset_of(word: &str) -> Option<i64>
     }
 }
 
-/// Adds the decimal text of a number, as `{}` writes it.
-pub fn push_number<N: Integer>(out: &mut String, number: N) -> Result<(), AllocError>
-    ensures { OnOk result (string_bytes out.new ≡ string_bytes out.old ++ N.text number) }
+/// Adds the decimal text of a number. One digit is added as a character, which is faster than by a
+/// buffer.
+pub fn push_number(out: &mut String, number: u64) -> Result<(), AllocError>
+    ensures { OnOk result (string_bytes out.new ≡ string_bytes out.old ++ decimal number) }
 {
+    if number < 10 {
+        return out.push((b'0' + number as u8) as char);
+    }
     out.push_str(Buffer::new().format(number))
 }
 
@@ -128,7 +147,7 @@ impl Text for i64 {
     }
 
     fn write(value: &i64, out: &mut String) -> Result<(), AllocError> {
-        push_number(out, *value)
+        out.push_str(Buffer::new().format(*value))
     }
 }
 
