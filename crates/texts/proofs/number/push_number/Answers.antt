@@ -12,4 +12,4 @@ pub returns-then-number-lt10 : goal.returns-then-number-lt10
 returns-then-number-lt10 c =
     let small = c.if-number-lt10.true in
     added c.push.result (string_bytes c.push.new.self) (string_bytes c.args.out.now) _ (decimal c.args.number) c.push.ensures.bytes
-        (c.push.ensures.ascii (omega (arith, small)) ∙ sym (decimal_digit c.args.number small))
+    (c.push.ensures.ascii (omega (arith, small)) ∙ sym (decimal_digit c.args.number small))
