@@ -1,5 +1,5 @@
 //! Places of rows in the blocks of a lock table, and the searches for them.
-ghost use Rattle.std.specs.Prelude.{◌≡◌, ◌≤◌, ◌<◌, ◌+◌, ◌++◌, ◌∷◌, [], All, IfSome, IsTrue, ◌↔◌, MatchOption, length, get_or, take, drop};
+ghost use Rattle.std.specs.Prelude.{◌≡◌, ◌≤◌, ◌<◌, ◌+◌, ◌++◌, ◌∷◌, [], true, All, IfSome, IsTrue, ◌↔◌, MatchOption, length, get_or, take, drop};
 ghost use Rattle.std.specs.List.{AllZip};
 ghost use Rattle.lock_table.specs.code.Rows.{all_rows, rows_held, AllAfter, AreRows, ArePassed, IsSameRow};
 ghost use Rattle.lock_table.specs.code.Blocks.{AllBefore, AreSome, IsPlaced, IsRowOf};
@@ -76,6 +76,17 @@ pub(crate) fn blocks_of(blocks: &[Block], file: u16) -> &[Block]
     &blocks[begun.saturating_sub(1)..end]
 }
 
+// Whether the first and the last of the rows are of the file, so that all are.
+fn are_of_file(rows: &[OwnerLocks], file: u16) -> bool
+    requires { AreRows rows.now }
+    ensures { result ≡ true → All (λ row. row.file ≡ file) rows.now }
+{
+    match (rows.first(), rows.last()) {
+        (Some(first), Some(last)) => first.file == file && last.file == file,
+        _ => false,
+    }
+}
+
 // The rows of a file.
 pub(crate) fn rows_of(rows: &[OwnerLocks], file: u16) -> &[OwnerLocks]
     requires { AreRows rows.now }
@@ -83,6 +94,9 @@ pub(crate) fn rows_of(rows: &[OwnerLocks], file: u16) -> &[OwnerLocks]
     ensures file { All (λ row. row.file ≡ file) result.now }
     ensures held { rows_held result.now file ≡ rows_held rows.now file }
 {
+    if are_of_file(rows, file) {
+        return rows;
+    }
     let start = rows.partition_point(|row| row.file < file);
     let end = rows.partition_point(|row| row.file <= file);
     &rows[start..end]
