@@ -1,4 +1,4 @@
-use Rattle.std.proofs.Common.{◌≡◌, ◌≤◌, ◌<◌, ◌-◌, true, ltb, length, get_or, List, sym, ap, lt-ltb, rules, arith}
+use Rattle.std.proofs.Common.{◌<◌, ◌-◌, ltb, length, get_or, List, sym, ap, lt-ltb, rules, arith}
 use Rattle.std.proofs.lemmas.Option.{get_or_from_slice_get}
 use Rattle.std.proofs.lemmas.List.Sorted.{IsPartitionPoint-from_clause, IsPartitionedBy-ltb}
 use Rattle.lock_table.specs.declared.owner_locks.OwnerLocks.{OwnerLocks}
