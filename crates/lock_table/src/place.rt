@@ -172,8 +172,5 @@ pub(crate) fn same_rows(blocks: &[Block], others: &[Block]) -> bool
         (rows, left) = (more, later);
         (twins, behind) = (rest, last);
     }
-    match next_of(twins, behind) {
-        Some(_) => false,
-        None => true,
-    }
+    next_of(twins, behind).is_none()
 }
