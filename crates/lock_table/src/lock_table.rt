@@ -27,8 +27,9 @@ mod writes;
 // A table of fewer blocks than this keeps no index.
 const LEAST_BLOCKS: usize = 2;
 
-// The number of rows for which an index has memory, for each block.
-const ROWS_OF_BLOCK: usize = 32;
+// The number of rows for which an index has memory, for each block: as many as a block has where rows
+// come in order.
+const ROWS_OF_BLOCK: usize = 56;
 
 /// The record locks of one node: what each owner holds at each byte of each file, by mode. `set`,
 /// `unlock` and a change from `plan` leave an owner at most as many regions in a file as the

@@ -13,24 +13,20 @@ pub fn cmp_regions(a: &LockInfo, b: &LockInfo) -> Ordering
     a.span.lo.cmp(&b.span.lo).then(a.owner.cmp(&b.owner))
 }
 
-// The one of two regions that comes first.
-fn lower(a: LockInfo, b: LockInfo) -> LockInfo
-    ensures either { (result ≡ a) ⊎ (result ≡ b) }
-    ensures first { IsNotAfter result a }
-    ensures second { IsNotAfter result b }
+/// Keeps the region that was found, if it comes before the lowest one so far, or there is none so
+/// far.
+pub fn keep_lowest(lowest: &mut Option<LockInfo>, found: Option<LockInfo>)
+    ensures either { (lowest.new ≡ lowest.old) ⊎ (lowest.new ≡ found) }
+    ensures first { IfSome lowest.old (λ lock. IsSomeAnd lowest.new (λ least. IsNotAfter least lock)) }
+    ensures second { IfSome found (λ lock. IsSomeAnd lowest.new (λ least. IsNotAfter least lock)) }
 {
-    if cmp_regions(&b, &a).is_lt() { b } else { a }
-}
-
-/// The one of at most two regions that comes first.
-pub fn lowest_of(a: Option<LockInfo>, b: Option<LockInfo>) -> Option<LockInfo>
-    ensures either { (result ≡ a) ⊎ (result ≡ b) }
-    ensures first { IfSome a (λ lock. IsSomeAnd result (λ least. IsNotAfter least lock)) }
-    ensures second { IfSome b (λ lock. IsSomeAnd result (λ least. IsNotAfter least lock)) }
-{
-    match (a, b) {
-        (Some(x), Some(y)) => Some(lower(x, y)),
-        (Some(_), None) => a,
-        (None, _) => b,
+    let Some(lock) = &found else {
+        return;
+    };
+    if let Some(least) = lowest {
+        if cmp_regions(least, lock).is_le() {
+            return;
+        }
     }
+    *lowest = found;
 }

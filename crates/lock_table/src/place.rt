@@ -1,7 +1,7 @@
 //! Places of rows in the blocks of a lock table, and the searches for them.
-ghost use Rattle.std.specs.Prelude.{◌≡◌, ◌≤◌, ◌<◌, ◌+◌, ◌++◌, ◌∷◌, [], All, IfSome, IsTrue, ◌↔◌, MatchOption, length, get_or, take, drop};
-ghost use Rattle.std.specs.List.{AllZip};
-ghost use Rattle.lock_table.specs.code.Rows.{all_rows, rows_held, AllAfter, AreRows, ArePassed, IsSameRow};
+ghost use Rattle.std.specs.Prelude.{◌≡◌, ◌≤◌, ◌<◌, ◌+◌, ◌++◌, ◌∷◌, [], true, nat_lt, All, IfSome, IsTrue, ◌↔◌, MatchOption, length, get_or, take, drop};
+ghost use Rattle.std.specs.List.{AllWithin, AllZip};
+ghost use Rattle.lock_table.specs.code.Rows.{all_rows, mark_of as mark_at, rows_held, AllAfter, AreRows, ArePassed, IsSameRow};
 ghost use Rattle.lock_table.specs.code.Blocks.{AllBefore, AreSome, IsPlaced, IsRowOf};
 
 use crate::block::Block;
@@ -76,6 +76,17 @@ pub(crate) fn blocks_of(blocks: &[Block], file: u16) -> &[Block]
     &blocks[begun.saturating_sub(1)..end]
 }
 
+// Whether the first and the last of the rows are of the file, so that all are.
+fn are_of_file(rows: &[OwnerLocks], file: u16) -> bool
+    requires { AreRows rows.now }
+    ensures { result ≡ true → All (λ row. row.file ≡ file) rows.now }
+{
+    match (rows.first(), rows.last()) {
+        (Some(first), Some(last)) => first.file == file && last.file == file,
+        _ => false,
+    }
+}
+
 // The rows of a file.
 pub(crate) fn rows_of(rows: &[OwnerLocks], file: u16) -> &[OwnerLocks]
     requires { AreRows rows.now }
@@ -83,9 +94,24 @@ pub(crate) fn rows_of(rows: &[OwnerLocks], file: u16) -> &[OwnerLocks]
     ensures file { All (λ row. row.file ≡ file) result.now }
     ensures held { rows_held result.now file ≡ rows_held rows.now file }
 {
+    if are_of_file(rows, file) {
+        return rows;
+    }
     let start = rows.partition_point(|row| row.file < file);
     let end = rows.partition_point(|row| row.file <= file);
     &rows[start..end]
+}
+
+// The number of rows whose marks are below a bound. Found by halving, unless all are.
+fn marks_below(rows: &[OwnerLocks], bound: usize) -> usize
+    requires { AreRows rows.now }
+    ensures within { result ≤ length rows.now }
+    ensures below { AllWithin (λ row. nat_lt (mark_at row.file row.owner) bound ≡ true) rows.now 0 result }
+{
+    match rows.last() {
+        Some(row) if mark_of(row.file, row.owner) < bound => rows.len(),
+        _ => rows.partition_point(|row| mark_of(row.file, row.owner) < bound),
+    }
 }
 
 // The place of the first row, from place `from` on, whose owner may be in the set. The rows before
@@ -107,7 +133,7 @@ pub(crate) fn next_near(rows: &[OwnerLocks], from: usize, near: &OwnerSet) -> us
     let next = near.next(flag_of(row.owner));
     let bound = row.file as usize * 256 + next;
     let (_, rest) = rows.split_at(from);
-    from + rest.partition_point(|row| mark_of(row.file, row.owner) < bound)
+    from + marks_below(rest, bound)
 }
 
 // The first one of `rows` and then of the rows of `blocks`, with the rows and blocks behind it.
@@ -146,8 +172,5 @@ pub(crate) fn same_rows(blocks: &[Block], others: &[Block]) -> bool
         (rows, left) = (more, later);
         (twins, behind) = (rest, last);
     }
-    match next_of(twins, behind) {
-        Some(_) => false,
-        None => true,
-    }
+    next_of(twins, behind).is_none()
 }

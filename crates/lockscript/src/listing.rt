@@ -25,6 +25,9 @@ use texts::number::push_number;
 use texts::text::Text;
 use texts::words::Named;
 
+// The number of bytes that most lines of replies have.
+const LINE: usize = 32;
+
 /// The listing of a run, in five sections with headings: the refused lines of its script, each with
 /// the number of its refusal; the replies, each with the position of its entry, from 1; the tokens;
 /// the locks; and the history. Each section has the order in which it is given.
@@ -53,7 +56,7 @@ pub fn listing_start(
 ) -> Result<String, AllocError>
     ensures { IfOk result (λ text. string_bytes text ≡ listing_start refused.now entries.now tokens.now locks.now) }
 {
-    let mut out = String::new(alloc);
+    let mut out = String::with_capacity(alloc, entries.len().saturating_mul(LINE))?;
     push_refused(&mut out, refused)?;
     push_replies(&mut out, entries)?;
     push_tokens(&mut out, tokens)?;

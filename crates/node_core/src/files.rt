@@ -16,7 +16,7 @@ pub fn new_files(alloc: Global, count: u16) -> Result<Vec<FileRow>, AllocError>
     ensures state { IfOk result (λ files. file_state files.items ≡ (λ file. first_file)) }
     ensures count { IfOk result (λ files. length files.items ≡ count) }
 {
-    let mut files = Vec::new(alloc);
+    let mut files = Vec::with_capacity(alloc, count as usize)?;
     for _made in 0..count {
         files.push(FileRow::new(alloc))?;
     }
@@ -27,7 +27,7 @@ pub fn new_files(alloc: Global, count: u16) -> Result<Vec<FileRow>, AllocError>
 pub fn copy_files(alloc: Global, files: &[FileRow]) -> Result<Vec<FileRow>, AllocError>
     ensures { IfOk result (λ copy. copy.items ≡ files.now) }
 {
-    let mut copy = Vec::new(alloc);
+    let mut copy = Vec::with_capacity(alloc, files.len())?;
     for file in files {
         copy.push(file.copy()?)?;
     }

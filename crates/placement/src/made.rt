@@ -9,6 +9,9 @@ use model::op::Op;
 use std::alloc::{AllocError, Global};
 use std::marker::Model;
 
+// The number of calls for which memory is taken at once, so that a short run seldom moves them.
+const CALLS_AT_FIRST: usize = 16_384;
+
 /// The calls of the first entries of a run. Only an entry that makes a call takes memory here.
 #[derive(Drop)]
 pub(crate) struct Made {
@@ -28,6 +31,18 @@ impl Model for Made {
     ghost view = { λ m. called_from m.calls.items m.entries };
 
     ghost invariant = { λ m. AreMade m.calls.items m.entries };
+}
+
+// Adds a call. The first one takes memory for many.
+fn push_call(calls: &mut Vec<IndexedCall>, call: IndexedCall) -> Result<(), AllocError>
+    ensures more { OnOk result (calls.new.items ≡ calls.old.items ++ call ∷ []) }
+    ensures unchanged { OnErr result (calls.new.items ≡ calls.old.items) }
+{
+    if calls.capacity() == 0 {
+        calls.reserve(CALLS_AT_FIRST)?;
+    }
+    calls.push(call)?;
+    Ok(())
 }
 
 impl Made {
@@ -62,11 +77,12 @@ impl Made {
         ensures unchanged { OnErr result (self.new ≡ self.old) }
     {
         if let Some((pid, op)) = called {
-            self.calls.push(IndexedCall {
+            let call = IndexedCall {
                 entry: self.entries,
                 pid,
                 op,
-            })?;
+            };
+            push_call(&mut self.calls, call)?;
         }
         self.entries += 1;
         Ok(())

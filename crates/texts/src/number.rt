@@ -95,15 +95,24 @@ pub fn offset_of(word: &str) -> Option<i64>
     }
 }
 
+// Adds the decimal text of a number, by a buffer.
+#[inline(never)]
+fn push_digits(out: &mut String, number: u64) -> Result<(), AllocError>
+    ensures { OnOk result (string_bytes out.new ≡ string_bytes out.old ++ decimal number) }
+{
+    out.push_str(Buffer::new().format(number))
+}
+
 /// Adds the decimal text of a number. One digit is added as a character, which is faster than by a
 /// buffer.
+#[inline]
 pub fn push_number(out: &mut String, number: u64) -> Result<(), AllocError>
     ensures { OnOk result (string_bytes out.new ≡ string_bytes out.old ++ decimal number) }
 {
     if number < 10 {
         return out.push((b'0' + number as u8) as char);
     }
-    out.push_str(Buffer::new().format(number))
+    push_digits(out, number)
 }
 
 /// A number from `LEAST` to `MOST`, as far as the type `T` goes.

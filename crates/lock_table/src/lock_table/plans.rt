@@ -1,5 +1,5 @@
 //! The planned changes of the table of a node.
-ghost use Rattle.std.specs.Prelude.{◌≡◌, ◌≤◌, ◌<◌, ◌⊎◌, ⊤, ℕ, nat_le, length, IfOk, IfErr, MatchResult, OnOk, Err};
+ghost use Rattle.std.specs.Prelude.{◌≡◌, ◌≤◌, ◌<◌, ◌⊎◌, ⊤, ℕ, nat_le, length, IfOk, IfErr, IfSome, MatchResult, OnOk, Err};
 ghost use Rattle.intervals.specs.rule.Bytes.{put};
 ghost use Rattle.model.specs.rule.Locks.{with_lock, regions};
 ghost use Rattle.model.specs.declared.owner.Owner.{Owner as SomeOwner};
@@ -82,7 +82,9 @@ impl LockTable {
     }
 
     // Memory for an index, if the table is to keep one and has none, or one that is small for it.
-    fn index_for(&self) -> Result<Option<Box<PageIndex>>, AllocError> {
+    fn index_for(&self) -> Result<Option<Box<PageIndex>>, AllocError>
+        ensures { IfOk result (λ index. IfSome index (λ _. 2 ≤ length self.now.blocks)) }
+    {
         let alloc = *self.blocks.allocator();
         let rows = self.blocks.len().saturating_mul(ROWS_OF_BLOCK);
         if self.blocks.len() < LEAST_BLOCKS || !self.index.is_small(rows) {

@@ -8,7 +8,7 @@ ghost use Rattle.lock_table.specs.code.Blockers.{AreNear, IsLowestBut, HasInWay}
 ghost use Rattle.lock_table.specs.code.Listing.{IsListing, ListsRegions};
 
 use super::LockTable;
-use crate::order::{cmp_regions, lowest_of};
+use crate::order::{cmp_regions, keep_lowest};
 use crate::owner_locks::OwnerLocks;
 use crate::owner_set::OwnerSet;
 use crate::place::{blocks_of, next_near, position, row_at, rows_of};
@@ -39,7 +39,7 @@ fn lowest_in(
     while at < rows.len() {
         let row = &rows[at];
         if row.may_bar(near, bar) {
-            lowest = lowest_of(lowest, row.lowest_but(out, span, mode));
+            keep_lowest(&mut lowest, row.lowest_but(out, span, mode));
         }
         at = next_near(rows, at + 1, near);
     }
@@ -98,7 +98,7 @@ impl LockTable {
         let mut lowest = None;
         for block in blocks_of(&self.blocks, file) {
             let found = lowest_in(block.rows(), file, &near, out, span, mode);
-            lowest = lowest_of(lowest, found);
+            keep_lowest(&mut lowest, found);
         }
         lowest
     }

@@ -1,17 +1,19 @@
-use Rattle.std.proofs.Common.{◌≡◌, ◌+◌, ◌*◌, ◌≤◌, true, ltb, drop, length, rules, arith}
+use Rattle.std.proofs.Common.{◌≡◌, ◌+◌, ◌*◌, ◌≤◌, true, ltb, drop, length, arith}
 use Rattle.std.specs.List.{AllWithin}
 use Rattle.std.proofs.lemmas.List.{length-drop}
-use Rattle.std.proofs.lemmas.List.Sorted.{IsPartitionPoint-from_clause, IsPartitionedBy-ltb}
 use Rattle.lock_table.specs.declared.owner_locks.OwnerLocks.{OwnerLocks}
 use Rattle.lock_table.specs.code.Pages.{flag_of}
-use Rattle.lock_table.specs.code.Rows.{mark_of, AreRows}
-use Rattle.lock_table.proofs.FileRows.{marks_rise, rows-drop}
+use Rattle.lock_table.specs.code.Rows.{mark_of}
+use Rattle.lock_table.proofs.FileRows.{rows-drop}
 use Rattle.lock_table.proofs.NearRows.{flags_passed}
 use Rattle.lock_table.proofs.place.next_near.Goals as goal
 
+pub marks_below-requires : goal.marks_below-requires
+marks_below-requires c = rw c.split_at.ensures.back (rows-drop c.args.rows.now c.args.from c.requires.rows)
+
 pub returns-clause-within : goal.returns-clause-within
 returns-clause-within c =
-    let few : c.partition_point.result ≤ length (drop c.args.from c.args.rows.now) = rw c.split_at.ensures.back at c.partition_point.ensures.bound in
+    let few : c.marks_below.result ≤ length (drop c.args.from c.args.rows.now) = rw c.split_at.ensures.back at c.marks_below.ensures.within in
     omega (arith, few, length-drop c.args.from c.args.rows.now, c.requires.from)
 
 pub returns-clause-passed : goal.returns-clause-passed
@@ -20,10 +22,6 @@ returns-clause-passed c =
     let first = c.index-rows-from.result in
     let next = c.next-next.result in
     let flag : c.flag_of.result ≡ flag_of first.owner = c.flag_of.ensures.result in
-    let rest = c.split_at.result.1.now in
-    let order : AreRows rest = rw c.split_at.ensures.back (rows-drop rows c.args.from c.requires.rows) in
-    let parted = IsPartitionedBy-ltb (λ (r : OwnerLocks). mark_of r.file r.owner) rest (first.file * 256 + next) (marks_rise rest order) in
-    let point = IsPartitionPoint-from_clause (λ (r : OwnerLocks). ltb (mark_of r.file r.owner) (first.file * 256 + next)) _ _ c.partition_point.ensures.partitioned parted (λ a r q k. search rules) in
-    let below : AllWithin (λ (r : OwnerLocks). ltb (mark_of r.file r.owner) (first.file * 256 + next) ≡ true) (drop c.args.from rows) 0 c.partition_point.result = rw c.split_at.ensures.back at point.0 in
-    let few : c.partition_point.result ≤ length (drop c.args.from rows) = rw c.split_at.ensures.back at c.partition_point.ensures.bound in
-    flags_passed rows c.args.near.now c.args.from next c.partition_point.result first c.requires.rows (omega arith) c.index-rows-from.is (rw flag at c.next-next.ensures.none_below) c.next-next.ensures.within below (omega (arith, few, length-drop c.args.from rows, c.requires.from))
+    let below : AllWithin (λ (r : OwnerLocks). ltb (mark_of r.file r.owner) (first.file * 256 + next) ≡ true) (drop c.args.from rows) 0 c.marks_below.result = rw c.split_at.ensures.back at c.marks_below.ensures.below in
+    let few : c.marks_below.result ≤ length (drop c.args.from rows) = rw c.split_at.ensures.back at c.marks_below.ensures.within in
+    flags_passed rows c.args.near.now c.args.from next c.marks_below.result first c.requires.rows (omega arith) c.index-rows-from.is (rw flag at c.next-next.ensures.none_below) c.next-next.ensures.within below (omega (arith, few, length-drop c.args.from rows, c.requires.from))

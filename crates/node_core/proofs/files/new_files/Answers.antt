@@ -5,7 +5,7 @@ use Rattle.node_core.proofs.FileLaws.{file_state-none, file_state-push}
 use Rattle.node_core.proofs.files.new_files.Goals as goal
 
 pub loop-made-init : goal.loop-made-init
-loop-made-init c = record { state = ap file_state c.new-files.ensures.items ∙ file_state-none; count = ap length c.new-files.ensures.items }
+loop-made-init c = record { state = ap file_state c.in_ok-files.ensures.items ∙ file_state-none; count = ap length c.in_ok-files.ensures.items }
 
 pub loop-made-preserved : goal.loop-made-preserved
 loop-made-preserved c = record {

@@ -43,7 +43,7 @@ loop-block-preserved c =
     let lt = c.loop-block-test.true in
     let order = c.blocks_of-block-items.ensures.rows in
     let own : c.rows.result.now ≡ get_or bs i [] = c.rows.ensures ∙ (c.block-item.is ∙ get_or_default bs i c.block-item.result [] lt) in
-    let found = c.lowest_of-lowest.ensures in
+    let found = c.keep_lowest.ensures in
     let here : IsLowestBut (rows_held (get_or bs i []) c.args.file) c.args.out.now c.args.span c.args.mode c.lowest_in-found.result = rw own at c.lowest_in-found.ensures in
     lowest_join _ _ _ (block_step bs i c.args.file order lt) c.args.out.now c.args.span c.args.mode _ _ _ c.loop-block.invariant here found.either found.first found.second
 

@@ -35,7 +35,7 @@ loop-at-preserved c =
     let join = rows_step part at row file rows.rows rows.file lt is in
     let lowest : IsLowestBut (rows_held (take (at + 1) part) file) c.args.out.now c.args.span c.args.mode c.if-may_bar.lowest = elim c.if-may_bar.branch [
       | then-may_bar w ↦
-          let found = w.lowest_of-lowest.ensures in
+          let found = w.keep_lowest.ensures in
           rw w.lowest-is (lowest_join _ _ _ join _ _ _ _ _ _ c.loop-at.invariant.lowest w.lowest_but.ensures found.either found.first found.second)
       | else-may_bar w ↦
           rw w.lowest-is (lowest_past _ _ _ join c.args.out.now c.args.span c.args.mode _ c.loop-at.invariant.lowest (row_passed row c.args.out.now c.args.span c.args.mode (λ b m lo hi at_byte barred.
