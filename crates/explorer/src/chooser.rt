@@ -20,8 +20,8 @@ const REPEATED: usize = 16;
 /// Of so many choices one is a failure, until there was one.
 const FAILED: usize = 32;
 
-/// How often, one after the other, what has no answer is asked for again.
-const ROUNDS: u32 = 4;
+/// How often, one after the other, what has no answer is asked for again: by the servers and by the nodes, in turn.
+const ROUNDS: u32 = 8;
 
 /// What comes next in a schedule of a script, by chance: which lines of the script are still to come, what each
 /// process is to do, which messages are under way, what else is to happen at some time, and what comes at once.
@@ -212,13 +212,17 @@ impl<'a> Chooser<'a> {
         Ok(Some(ScriptCommand::FailServer { file }))
     }
 
-    // What has no answer is asked for again, if a call is open: by the servers of the files and by the nodes.
+    // What has no answer is asked for again, if a call is open: in turn by the servers of the files and by the nodes.
+    // The servers come first, since one that works through many requests stops where the message for one of them is
+    // lost: if each open call were tried again then, all the others would be for nothing.
     fn ask_again(&mut self) -> Result<(), AllocError> {
-        self.processes.push_retries(&mut self.queue)?;
-        if self.queue.is_empty() {
-            return Ok(());
+        if self.processes.is_any_open() && self.rounds % 2 == 1 {
+            self.files.push_resends(&mut self.queue)?;
         }
-        self.files.push_resends(&mut self.queue)
+        if self.queue.is_empty() {
+            self.processes.push_retries(&mut self.queue)?;
+        }
+        Ok(())
     }
 
     // The phase ends: all messages are settled, unless they are, and the line behind it has its turn. The next

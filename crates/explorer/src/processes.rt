@@ -51,6 +51,11 @@ impl Processes {
         self.ready.len()
     }
 
+    /// Whether one of them has an open call.
+    pub(crate) fn is_any_open(&self) -> bool {
+        !self.open.is_empty()
+    }
+
     /// The next call of the one that is ready at this index among those that are, which makes it.
     pub(crate) fn next_ready(&mut self, index: usize) -> Result<Option<ScriptCommand>, AllocError> {
         let Some(place) = self.ready.get(index).copied() else {
