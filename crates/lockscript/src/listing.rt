@@ -25,8 +25,9 @@ use texts::number::push_number;
 use texts::text::Text;
 use texts::words::Named;
 
-// The number of bytes that most lines of replies have.
-const LINE: usize = 32;
+// For each entry there is memory for so many bytes from the beginning: the line of a reply and that
+// of the history, which comes behind the other sections, seldom have more.
+const BYTES_OF_ENTRY: usize = 96;
 
 /// The listing of a run, in five sections with headings: the refused lines of its script, each with
 /// the number of its refusal; the replies, each with the position of its entry, from 1; the tokens;
@@ -56,7 +57,7 @@ pub fn listing_start(
 ) -> Result<String, AllocError>
     ensures { IfOk result (λ text. string_bytes text ≡ listing_start refused.now entries.now tokens.now locks.now) }
 {
-    let mut out = String::with_capacity(alloc, entries.len().saturating_mul(LINE))?;
+    let mut out = String::with_capacity(alloc, entries.len().saturating_mul(BYTES_OF_ENTRY))?;
     push_refused(&mut out, refused)?;
     push_replies(&mut out, entries)?;
     push_tokens(&mut out, tokens)?;

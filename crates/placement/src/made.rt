@@ -10,7 +10,7 @@ use std::alloc::{AllocError, Global};
 use std::marker::Model;
 
 // The number of calls for which memory is taken at once, so that a short run seldom moves them.
-const CALLS_AT_FIRST: usize = 16_384;
+const CALLS_AT_FIRST: usize = 65_536;
 
 /// The calls of the first entries of a run. Only an entry that makes a call takes memory here.
 #[derive(Drop)]

@@ -115,6 +115,9 @@ impl<C: Clock, W: Write> Watcher for Meter<'_, C, W> {
     }
 
     fn pass(&mut self) {
+        if self.terminal.is_none() {
+            return;
+        }
         self.done = self.done.saturating_add(1);
         self.left = self.left.saturating_sub(1);
         if self.left == 0 {
