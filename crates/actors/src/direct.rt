@@ -76,7 +76,9 @@ impl<'a, J: Name, G: Gate> Direct<'a, J, G> {
             op,
         };
         let event = Event::AtNode(process.node, call);
-        self.step(rt, &mut work.seat, event, seen)
+        let stamp = self.step(rt, &mut work.seat, event, seen);
+        let _ = work.seat.catch_up(self.alloc); // where memory is refused, the next step does it
+        stamp
     }
 
     // Prepares the step of the seat at the call without the book's lock, and commits it, if it answers the call and

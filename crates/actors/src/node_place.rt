@@ -1,5 +1,6 @@
 //! The place of a node: what a running cluster knows of it.
 ghost use Rattle.std.specs.Prelude.{◌≡◌, ◌≢◌, ◌≤◌, Err, None, Some, [], false, true, IfErr, IfOk};
+ghost use Rattle.book.specs.rule.Fields.{seat_state};
 ghost use Rattle.book.specs.rule.States.{incarnation_of};
 ghost use Rattle.actors.specs.declared.call_error.CallError.TheVariants.{Fenced, Stranger};
 
@@ -65,7 +66,7 @@ impl<J: Name> NodePlace<J> {
 
     /// Notes that the node begins again, on this seat, and that no process has a client.
     pub(crate) fn begin(&mut self, seat: Seat<J>)
-        ensures { (self.new.incarnation ≡ incarnation_of seat.state) × (self.new.alive ≡ true) × (self.new.clients.items ≡ []) × (self.new.seat ≡ Some seat) }
+        ensures { (self.new.incarnation ≡ incarnation_of (seat_state seat)) × (self.new.alive ≡ true) × (self.new.clients.items ≡ []) × (self.new.seat ≡ Some seat) }
     {
         self.incarnation = seat.incarnation();
         self.alive = true;

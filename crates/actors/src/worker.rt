@@ -104,6 +104,7 @@ impl<W: Weather> Worker<W> {
             let mut work = lock(rt, desk);
             self.change_seats(rt, shared, &mut work.seat);
             self.take(rt, shared, &mut work.seat, letter);
+            let _ = work.seat.catch_up(shared.alloc); // where memory is refused, the next step does it
             self.ask_for_tick(shared);
             work.has_open = !self.waiting.is_empty();
         }

@@ -1,5 +1,5 @@
 -- Commits, declarations, failures and restarts of a book: each with all that it makes.
-use Rattle.std.proofs.Common.{◌≡◌, ◌≢◌, ℕ, ◌+◌, ◌<◌, true, [], ◌∷◌, ◌++◌, length, sym, ap, ◌∙◌, subst, Result, Ok, Err}
+use Rattle.std.proofs.Common.{◌≡◌, ℕ, ◌+◌, true, [], ◌∷◌, ◌++◌, length, sym, ap, ◌∙◌, subst, Ok}
 use Rattle.messages.specs.rule.Messages.{sending}
 use Rattle.messages.specs.declared.actor.Actor.TheVariants.{Node as ANode, Server as AServer}
 use Rattle.messages.specs.declared.event.Event.{Event}
@@ -7,26 +7,24 @@ use Rattle.messages.specs.declared.event.Event.TheVariants.{Member}
 use Rattle.messages.specs.declared.event.MemberEvent.{MemberEvent}
 use Rattle.messages.specs.declared.event.MemberEvent.TheVariants.{Declare, Restart, FailServer, StartServer}
 use Rattle.messages.specs.declared.entry.Entry.{Entry}
-use Rattle.messages.specs.declared.refusal.Refused.{Refused}
 use Rattle.messages.specs.declared.outcome.Outcome.{Outcome}
 use Rattle.token_server.specs.rule.Resends.{outstanding}
-use Rattle.cluster_core.specs.rule.World.{WorldState, journal_limit}
-use Rattle.cluster_core.specs.rule.Next.{entry, next_server, next, kept_next}
+use Rattle.cluster_core.specs.rule.World.{WorldState}
+use Rattle.cluster_core.specs.rule.Next.{entry, next_server, next}
 use Rattle.cluster_core.specs.rule.Parts.{world_state}
 use Rattle.cluster_core.specs.rule.Journals.{RunFields, GoesOn}
 use Rattle.cluster_core.proofs.common.Refusals.{ok_is}
-use Rattle.cluster_core.proofs.steps.Steps.{kept_taken, kept_of}
+use Rattle.cluster_core.proofs.steps.Steps.{kept_taken}
 use Rattle.cluster_core.specs.rule.Actors.{Records, member_of}
-use Rattle.book.specs.declared.state.State.{State}
-use Rattle.book.specs.rule.States.{actor_of, Becomes, HasState, StepsTo, is_declared, made_by}
-use Rattle.book.specs.rule.Fields.{SeatFields, PreparedFields, StampFields}
-use Rattle.book.specs.rule.Commits.{IsStepFrom, IsSeatOf, Accepts, Commits}
+use Rattle.book.specs.rule.States.{actor_of, StepsTo, is_declared, made_by}
+use Rattle.book.specs.rule.Fields.{SeatFields, seat_state, PreparedFields, StampFields}
+use Rattle.book.specs.rule.Commits.{IsSeatOf, Accepts, Commits}
 use Rattle.book.specs.code.Turns.{Turns, IsLastStamp, Declared, Restarted, Failed, Started}
 use Rattle.book.specs.code.LastSpots.{LastSpots, AreReached, Noted, Forgotten}
 use Rattle.book.proofs.Fences.{stays_declared}
 use Rattle.book.proofs.Reached.{reached_noted, reached_forgotten}
 use Rattle.book.proofs.Stamps.{stays, new_stamp}
-use Rattle.book.proofs.Steps.{actor_kept, leads, comes_next, made_entry, may_step, mine, others}
+use Rattle.book.proofs.Steps.{actor_kept, comes_next, made_entry, may_step, mine, others}
 use Rattle.book.proofs.Turns.{declared_entry, declared_fences, others_stay, failed_entry, failed_fences, started_entry}
 
 -- a run that took the event recorded what it leads to
@@ -36,24 +34,18 @@ records b d event made went is =
     let same : q ≡ made = ok_is q made (sym (kept_taken (world_state b.world) event q went.1).1 ∙ is) in
     record { step = is; world = ap (λ (m : WorldState × Entry). m.0) same; entries = went.2 ∙ ap (λ (m : WorldState × Entry). b.entries ++ m.1 ∷ []) same }
 
--- an event that leads on is not refused, where there is room
-pub unrefused : (w : WorldState) (event : Event) (made : WorldState × Entry) (e : Refused) → w.length < journal_limit → next w event ≡ Ok made → kept_next w event ≡ Err e → ⊥
-unrefused w event made e room is refused =
-    let both : ◌≡◌ {A = Result (WorldState × Entry) Refused} (Ok made) (Err e) = sym (kept_of w event (Ok made) room is) ∙ refused in
-    absurd (cc)
-
 pub committed : (b d : RunFields) (s r : SeatFields) (p : PreparedFields) (seen : ℕ) (t : StampFields)
-    → Accepts b s p seen → IsStepFrom s p → GoesOn b p.event d
-    → Becomes s.state p.edit r.state → r.commits ≡ s.commits + 1
+    → Accepts b s p seen → GoesOn b p.event d
+    → StepsTo (seat_state s) p.event (seat_state r) p.outcome → r.commits ≡ s.commits + 1
     → t.position ≡ length d.entries → t.event ≡ p.event → t.outcome ≡ p.outcome → t.seen ≡ seen
     → Commits b s p seen d r t
-committed b d s r p seen t accepted is went becomes commits position said gave seen_is =
+committed b d s r p seen t accepted went step commits position said gave seen_is =
     let w = world_state b.world in
     let v = world_state d.world in
-    let step : StepsTo s.state p.event r.state p.outcome = leads s.state p.event p.edit r.state p.outcome is.1 becomes in
-    let may = may_step w s.state p.event r.state p.outcome accepted.1 step in
-    let goes : Records b p.event (made_by w p.event r.state p.outcome) d = records b d p.event (made_by w p.event r.state p.outcome) went (comes_next w p.event r.state p.outcome accepted.0.known may) in
-    let k = made_entry w p.event r.state p.outcome in
+    let x = seat_state r in
+    let may = may_step w (seat_state s) p.event x p.outcome accepted.1 step in
+    let goes : Records b p.event (made_by w p.event x p.outcome) d = records b d p.event (made_by w p.event x p.outcome) went (comes_next w p.event x p.outcome accepted.0.known may) in
+    let k = made_entry w p.event x p.outcome in
     record {
       accepted = accepted;
       goes = goes;
@@ -63,11 +55,11 @@ committed b d s r p seen t accepted is went becomes commits position said gave s
       event = said;
       outcome = gave;
       seen_is = seen_is;
-      mine = mine w v p.event r.state p.outcome goes.world may;
-      others = λ x ne has. others w v p.event r.state p.outcome x.state goes.world (λ e. ne (e ∙ actor_kept s.state p.event r.state p.outcome step)) has;
-      fences = λ x was. subst (λ (u : WorldState). is_declared u x.state ≡ true) (sym goes.world) (stays_declared w p.event (made_by w p.event r.state p.outcome) x.state goes.step was);
-      stamped = new_stamp b.entries d.entries (made_by w p.event r.state p.outcome).1 k.0 t goes.entries (k.1 ∙ (λ i. entry (sym said i) k.0 (sym gave i))) position;
-      stamps = λ x h. stays b.entries d.entries (made_by w p.event r.state p.outcome).1 x goes.entries h;
+      mine = mine w v p.event x p.outcome goes.world may;
+      others = λ o ne has. others w v p.event x p.outcome (seat_state o) goes.world (λ e. ne (e ∙ actor_kept (seat_state s) p.event x p.outcome step)) has;
+      fences = λ o was. subst (λ (u : WorldState). is_declared u (seat_state o) ≡ true) (sym goes.world) (stays_declared w p.event (made_by w p.event x p.outcome) (seat_state o) goes.step was);
+      stamped = new_stamp b.entries d.entries (made_by w p.event x p.outcome).1 k.0 t goes.entries (k.1 ∙ (λ i. entry (sym said i) k.0 (sym gave i))) position;
+      stamps = λ o h. stays b.entries d.entries (made_by w p.event x p.outcome).1 o goes.entries h;
     }
 
 -- seats, stamps and fences of a book after a member changed
@@ -78,9 +70,9 @@ turned b d event went =
     let step = (kept_taken w (Member event) q went.1).1 in
     record {
       goes = went;
-      fences = λ x was. stays_declared w (Member event) q x.state step was;
+      fences = λ x was. stays_declared w (Member event) q (seat_state x) step was;
       stamps = λ x h. stays b.entries d.entries went.0 x went.2 h;
-      others = λ x ne has. others_stay w event q x.state step ne has;
+      others = λ x ne has. others_stay w event q (seat_state x) step ne has;
     }
 
 -- the stamp of the entry that a change made
@@ -104,10 +96,10 @@ declared b d n t went position said gave seen_is =
     let q : WorldState × Entry = (world_state d.world, went.0) in (
       turned b d (Declare n) went,
       stamped b d (Declare n) (sending []) t went (declared_entry w n) position said gave seen_is,
-      λ s is same least. declared_fences w n q s.state (kept_taken w (Member (Declare n)) q went.1).1 is same least,
+      λ s is same least. declared_fences w n q (seat_state s) (kept_taken w (Member (Declare n)) q went.1).1 is same least,
     )
 
-pub restarted : (b d : RunFields) (n : ℕ) (s : SeatFields) → GoesOn b (Member (Restart n)) d → actor_of s.state ≡ ANode n → s.commits ≡ 0 → IsSeatOf d s → Restarted b n d s
+pub restarted : (b d : RunFields) (n : ℕ) (s : SeatFields) → GoesOn b (Member (Restart n)) d → actor_of (seat_state s) ≡ ANode n → s.commits ≡ 0 → IsSeatOf d s → Restarted b n d s
 restarted b d n s went actor commits stands = (
   turned b d (Restart n) went,
   record { actor = actor; commits = commits; mine = stands },
@@ -119,10 +111,10 @@ failed b d f t went position said gave seen_is =
     let q : WorldState × Entry = (world_state d.world, went.0) in (
       turned b d (FailServer f) went,
       stamped b d (FailServer f) (sending []) t went (failed_entry w f) position said gave seen_is,
-      λ s is same least. failed_fences w f q s.state (kept_taken w (Member (FailServer f)) q went.1).1 is same least,
+      λ s is same least. failed_fences w f q (seat_state s) (kept_taken w (Member (FailServer f)) q went.1).1 is same least,
     )
 
-pub started : (b d : RunFields) (f : ℕ) (s : SeatFields) (t : StampFields) → GoesOn b (Member (StartServer f)) d → actor_of s.state ≡ AServer f → s.commits ≡ 0 → IsSeatOf d s → t.position ≡ length d.entries → t.event ≡ Member (StartServer f) → t.outcome ≡ sending (outstanding (next_server (world_state b.world) f)) → t.seen ≡ 0 → Started b f d s t
+pub started : (b d : RunFields) (f : ℕ) (s : SeatFields) (t : StampFields) → GoesOn b (Member (StartServer f)) d → actor_of (seat_state s) ≡ AServer f → s.commits ≡ 0 → IsSeatOf d s → t.position ≡ length d.entries → t.event ≡ Member (StartServer f) → t.outcome ≡ sending (outstanding (next_server (world_state b.world) f)) → t.seen ≡ 0 → Started b f d s t
 started b d f s t went actor commits stands position said gave seen_is =
     let w = world_state b.world in (
       turned b d (StartServer f) went,
@@ -130,12 +122,15 @@ started b d f s t went actor commits stands position said gave seen_is =
       stamped b d (StartServer f) (sending (outstanding (next_server w f))) t went (started_entry w f) position said gave seen_is,
     )
 
--- after a commit the spots are right, with the new state's spot for its actor
-pub committed_reached : (b d : RunFields) (s r : SeatFields) (p : PreparedFields) (seen : ℕ) (t : StampFields) (old new : LastSpots) → Commits b s p seen d r t → AreReached (world_state b.world) old → Noted old r.state new → AreReached (world_state d.world) new
+-- after a step of one actor the spots are right, with the new state's spot for it
+pub committed_reached : (b d : RunFields) (s r : SeatFields) (p : PreparedFields) (seen : ℕ) (t : StampFields) (old new : LastSpots) → Commits b s p seen d r t → AreReached (world_state b.world) old → Noted old (seat_state r) new → AreReached (world_state d.world) new
 committed_reached b d s r p seen t old new made reached noted =
-    let kept = actor_kept s.state p.event r.state p.outcome made.step in
-    reached_noted (world_state b.world) (world_state d.world) old new r.state reached noted made.mine
-    (λ y ne has. made.others (record { state = y; commits = 0 }) (λ e. ne (e ∙ sym kept)) has)
+    let w = world_state b.world in
+    let v = world_state d.world in
+    let x = seat_state r in
+    let may = may_step w (seat_state s) p.event x p.outcome made.accepted.1 made.step in
+    reached_noted w v old new x reached noted made.mine
+    (λ y ne has. others w v p.event x p.outcome y made.goes.world ne has)
 
 -- after the change of a member the spots are right, with none for it
 pub turned_reached : (b d : RunFields) (event : MemberEvent) (old new : LastSpots) → GoesOn b (Member event) d → AreReached (world_state b.world) old → Forgotten old (member_of event) new → AreReached (world_state d.world) new

@@ -6,17 +6,14 @@ use Rattle.std.proofs.lemmas.Bool.Decides.{nat_tests}
 use Rattle.messages.specs.declared.event.Event.{Event}
 use Rattle.messages.specs.declared.entry.Entry.{Entry}
 use Rattle.node_core.specs.rule.State.{first_node}
-use Rattle.node_core.specs.rule.Parts.{node_state}
-use Rattle.token_server.specs.rule.Parts.{server_state}
 use Rattle.cluster_core.specs.rule.World.{WorldState, has_node, has_file}
 use Rattle.cluster_core.specs.rule.Next.{next, next_server}
 use Rattle.cluster_core.proofs.common.Choices.{at_number}
 use Rattle.cluster_core.proofs.steps.NodeNumbers.{node_rule-steps}
 use Rattle.cluster_core.proofs.steps.ServerSteps.{server_rule-epoch}
 use Rattle.cluster_core.proofs.steps.Steps.{next_step}
-use Rattle.book.specs.declared.state.State.{State}
-use Rattle.book.specs.declared.state.State.TheVariants.{OfNode, OfServer}
-use Rattle.book.specs.rule.States.{is_declared}
+use Rattle.book.specs.rule.States.ActorState.{NodeIs, ServerIs}
+use Rattle.book.specs.rule.States.{ActorState, is_declared}
 
 -- a number below another is below a greater one
 below_more : (i n m : ℕ) → m ≡ n → nat_lt i n ≡ true → nat_lt i (m + 1) ≡ true
@@ -56,11 +53,11 @@ begun there e works n m stops same h =
     let numbers = and_parts (nat_le 1 e) _ parts.1 in
     and_from _ _ parts.0 (and_from _ _ numbers.0 (below_next e n m same numbers.1))
 
-pub stays_declared : (w : WorldState) (event : Event) (q : WorldState × Entry) (x : State) → next w event ≡ Ok q → is_declared w x ≡ true → is_declared q.0 x ≡ true
-stays_declared w event q (OfNode n x) h was =
+pub stays_declared : (w : WorldState) (event : Event) (q : WorldState × Entry) (x : ActorState) → next w event ≡ Ok q → is_declared w x ≡ true → is_declared q.0 x ≡ true
+stays_declared w event q (NodeIs n x) h was =
     let there = has_node w n in
-    let i = (node_state x.value).incarnation in
-    next_step w (λ p. is_declared p.0 (OfNode n x) ≡ true) event q
+    let i = x.incarnation in
+    next_step w (λ p. is_declared p.0 (NodeIs n x) ≡ true) event q
     (λ m step done is.
     let same : (if n == m then done.0 else w.nodes n).incarnation ≡ (w.nodes n).incarnation =
     at_number n m (λ b. (if b then done.0 else w.nodes n).incarnation ≡ (w.nodes n).incarnation) (λ at. (node_rule-steps (w.nodes m) step done is).incarnation ∙ ap (λ (k : ℕ). (w.nodes k).incarnation) (sym at)) (λ other. refl) in
@@ -71,10 +68,10 @@ stays_declared w event q (OfNode n x) h was =
     (λ m is dead few. was)
     (λ g is works. was)
     (λ g is stops few. was) h
-stays_declared w event q (OfServer f x) h was =
+stays_declared w event q (ServerIs f x) h was =
     let there = has_file w f in
-    let e = (server_state x.value).epoch in
-    next_step w (λ p. is_declared p.0 (OfServer f x) ≡ true) event q
+    let e = x.epoch in
+    next_step w (λ p. is_declared p.0 (ServerIs f x) ≡ true) event q
     (λ m step done is. was)
     (λ g step done is.
     let same : (if f == g then done.0 else w.servers f).epoch ≡ (w.servers f).epoch =

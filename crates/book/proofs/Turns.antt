@@ -11,18 +11,15 @@ use Rattle.messages.specs.declared.event.MemberEvent.{MemberEvent}
 use Rattle.messages.specs.declared.event.MemberEvent.TheVariants.{Declare, Restart, FailServer, StartServer}
 use Rattle.messages.specs.declared.entry.Entry.{Entry}
 use Rattle.node_core.specs.rule.State.{NodeState, first_node}
-use Rattle.node_core.specs.rule.Parts.{node_state}
 use Rattle.token_server.specs.rule.State.{ServerState}
-use Rattle.token_server.specs.rule.Parts.{server_state}
 use Rattle.token_server.specs.rule.Resends.{outstanding}
 use Rattle.cluster_core.specs.rule.World.{WorldState, has_node, has_file}
 use Rattle.cluster_core.specs.rule.Next.{entry, next, next_server}
 use Rattle.cluster_core.specs.rule.Actors.{HasNode, HasServer, member_of}
 use Rattle.cluster_core.proofs.common.Choices.{at_number}
 use Rattle.cluster_core.proofs.steps.Steps.{next_taken, declare_step, restart_step, fail_step, start_step, member_step}
-use Rattle.book.specs.declared.state.State.{State}
-use Rattle.book.specs.declared.state.State.TheVariants.{OfNode, OfServer}
-use Rattle.book.specs.rule.States.{actor_of, incarnation_of, HasState, is_declared}
+use Rattle.book.specs.rule.States.ActorState.{NodeIs, ServerIs}
+use Rattle.book.specs.rule.States.{ActorState, actor_of, incarnation_of, HasState, is_declared}
 
 -- the entry of a declaration
 pub declared_entry : (w : WorldState) (n : ℕ) (q : WorldState × Entry) → next w (Member (Declare n)) ≡ Ok q → (k : ℕ) × (q.1 ≡ entry (Member (Declare n)) k (sending []))
@@ -32,14 +29,14 @@ same_member : (a b : MemberEvent) → Member a ≡ Member b → a ≡ b
 same_member a b e = cc
 
 -- the change of a member leaves other actors as they are
-pub others_stay : (w : WorldState) (event : MemberEvent) (q : WorldState × Entry) (x : State) → next w (Member event) ≡ Ok q → actor_of x ≢ member_of event → HasState w x → HasState q.0 x
-others_stay w event q (OfNode k x) h ne has =
+pub others_stay : (w : WorldState) (event : MemberEvent) (q : WorldState × Entry) (x : ActorState) → next w (Member event) ≡ Ok q → actor_of x ≢ member_of event → HasState w x → HasState q.0 x
+others_stay w event q (NodeIs k x) h ne has =
     let other : (change : MemberEvent) → Member event ≡ Member change → ANode k ≡ member_of change → ⊥ = λ change is e. ne (e ∙ sym (ap member_of (same_member event change is))) in
-    member_step w (λ p. HasState p.0 (OfNode k x)) event q
+    member_step w (λ p. HasState p.0 (NodeIs k x)) event q
     (λ m is alive. record {
       number = has.number;
       alive = at_number k m (λ b. (if b then false else w.alive k) ≡ true) (λ same. absurd (other (Declare m) is (ap ANode same))) (λ _. has.alive);
-      state = at_number k m (λ b. (if b then first_node w.shape m ((w.nodes m).incarnation + 1) else w.nodes k) ≡ node_state x.value) (λ same. absurd (other (Declare m) is (ap ANode same))) (λ _. has.state);
+      state = at_number k m (λ b. (if b then first_node w.shape m ((w.nodes m).incarnation + 1) else w.nodes k) ≡ x) (λ same. absurd (other (Declare m) is (ap ANode same))) (λ _. has.state);
     })
     (λ m is dead few. record {
       number = has.number;
@@ -49,9 +46,9 @@ others_stay w event q (OfNode k x) h ne has =
     (λ g is works. record { number = has.number; alive = has.alive; state = has.state })
     (λ g is stopped few. record { number = has.number; alive = has.alive; state = has.state })
     (next_taken w (Member event) q h).1
-others_stay w event q (OfServer k x) h ne has =
+others_stay w event q (ServerIs k x) h ne has =
     let other : (change : MemberEvent) → Member event ≡ Member change → AServer k ≡ member_of change → ⊥ = λ change is e. ne (e ∙ sym (ap member_of (same_member event change is))) in
-    member_step w (λ p. HasState p.0 (OfServer k x)) event q
+    member_step w (λ p. HasState p.0 (ServerIs k x)) event q
     (λ m is alive. record { number = has.number; working = has.working; state = has.state })
     (λ m is dead few. record { number = has.number; working = has.working; state = has.state })
     (λ g is works. record {
@@ -62,7 +59,7 @@ others_stay w event q (OfServer k x) h ne has =
     (λ g is stopped few. record {
       number = has.number;
       working = at_number k g (λ b. (if b then true else w.working k) ≡ true) (λ same. refl) (λ _. has.working);
-      state = at_number k g (λ b. (if b then next_server w g else w.servers k) ≡ server_state x.value) (λ same. absurd (other (StartServer g) is (ap AServer same))) (λ _. has.state);
+      state = at_number k g (λ b. (if b then next_server w g else w.servers k) ≡ x) (λ same. absurd (other (StartServer g) is (ap AServer same))) (λ _. has.state);
     })
     (next_taken w (Member event) q h).1
 
@@ -70,14 +67,14 @@ below_next : (i : ℕ) → 1 ≤ i → (nat_le 1 i && nat_lt i (i + 1)) ≡ true
 below_next i h = grind (arith, nat_tests, h)
 
 -- a declaration fences the incarnation that was alive
-pub declared_fences : (w : WorldState) (n : ℕ) (q : WorldState × Entry) (x : State) → next w (Member (Declare n)) ≡ Ok q → actor_of x ≡ ANode n → incarnation_of x ≡ (w.nodes n).incarnation → 1 ≤ incarnation_of x → is_declared q.0 x ≡ true
-declared_fences w n q (OfServer f x) h is same least = absurd (cc)
-declared_fences w n q (OfNode k x) h is same least =
+pub declared_fences : (w : WorldState) (n : ℕ) (q : WorldState × Entry) (x : ActorState) → next w (Member (Declare n)) ≡ Ok q → actor_of x ≡ ANode n → incarnation_of x ≡ (w.nodes n).incarnation → 1 ≤ incarnation_of x → is_declared q.0 x ≡ true
+declared_fences w n q (ServerIs f x) h is same least = absurd (cc)
+declared_fences w n q (NodeIs k x) h is same least =
     let here : k ≡ n = cc in
-    let i = (node_state x.value).incarnation in
+    let i = x.incarnation in
     let taken = next_taken w (Member (Declare n)) q h in
     let known : has_node w k ≡ true = ap (has_node w) here ∙ taken.0 in
-    declare_step w (λ p. is_declared p.0 (OfNode k x) ≡ true) n q (λ m at_m alive.
+    declare_step w (λ p. is_declared p.0 (NodeIs k x) ≡ true) n q (λ m at_m alive.
     let at : n ≡ m = cc in
     let grows : (if k == m then first_node w.shape m ((w.nodes m).incarnation + 1) else w.nodes k).incarnation ≡ i + 1 =
     at_number k m (λ b. (if b then first_node w.shape m ((w.nodes m).incarnation + 1) else w.nodes k).incarnation ≡ i + 1)
@@ -105,15 +102,15 @@ up_to_itself : (e : ℕ) → 1 ≤ e → (nat_le 1 e && nat_le e e) ≡ true
 up_to_itself e h = grind (arith, nat_tests, h)
 
 -- a failure fences the epoch that worked
-pub failed_fences : (w : WorldState) (f : ℕ) (q : WorldState × Entry) (x : State) → next w (Member (FailServer f)) ≡ Ok q → actor_of x ≡ AServer f → incarnation_of x ≡ (w.servers f).epoch → 1 ≤ incarnation_of x → is_declared q.0 x ≡ true
-failed_fences w f q (OfNode n x) h is same least = absurd (cc)
-failed_fences w f q (OfServer k x) h is same least =
+pub failed_fences : (w : WorldState) (f : ℕ) (q : WorldState × Entry) (x : ActorState) → next w (Member (FailServer f)) ≡ Ok q → actor_of x ≡ AServer f → incarnation_of x ≡ (w.servers f).epoch → 1 ≤ incarnation_of x → is_declared q.0 x ≡ true
+failed_fences w f q (NodeIs n x) h is same least = absurd (cc)
+failed_fences w f q (ServerIs k x) h is same least =
     let here : k ≡ f = cc in
-    let e = (server_state x.value).epoch in
+    let e = x.epoch in
     let taken = next_taken w (Member (FailServer f)) q h in
     let known : has_file w k ≡ true = ap (has_file w) here ∙ (and_parts (may_rebuild w.shape.version) (has_file w f) taken.0).1 in
     let now : (w.servers k).epoch ≡ e = ap (λ (j : ℕ). (w.servers j).epoch) here ∙ sym same in
-    fail_step w (λ p. is_declared p.0 (OfServer k x) ≡ true) f q (λ g at_g works.
+    fail_step w (λ p. is_declared p.0 (ServerIs k x) ≡ true) f q (λ g at_g works.
     let at : k ≡ g = cc in
     let stopped : (if k == g then false else w.working k) ≡ false = at_number k g (λ b. (if b then false else w.working k) ≡ false) (λ _. refl) (λ other. absurd (other at)) in
     (λ j. known j && (nat_le 1 e && (if stopped j then nat_lt e (w.servers k).epoch else nat_le e (now j)))) ∙ up_to_itself e least)

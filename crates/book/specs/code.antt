@@ -1,3 +1,4 @@
+pub mod Copies
 pub mod Receipts
 pub mod Seats
 pub mod Turns

@@ -1,14 +1,14 @@
 //! The book: the journal that the actors of a cluster share.
-ghost use Rattle.std.specs.Prelude.{◌≡◌, ◌≢◌, ◌+◌, ◌-◌, ◌<◌, ◌≤◌, [], ℕ, Ok, Err, Some, true, length, slice_get, IfOk, IfErr, IfSome, OnOk, OnErr, MatchResult, MatchBool, option_copied};
+ghost use Rattle.std.specs.Prelude.{◌≡◌, ◌≢◌, ◌+◌, ◌-◌, ◌<◌, ◌≤◌, [], ℕ, Ok, Err, Some, true, length, slice_get, IfOk, IfErr, IfSome, OnErr, MatchResult, MatchBool, option_copied};
 ghost use Rattle.messages.specs.declared.event.Event.TheVariants.{Member};
 ghost use Rattle.messages.specs.declared.event.MemberEvent.TheVariants.{Declare, Restart, FailServer, StartServer};
 ghost use Rattle.messages.specs.declared.refusal.Refused.{Refused};
 ghost use Rattle.messages.specs.declared.entry.Entry.{Entry};
-ghost use Rattle.cluster_core.specs.rule.World.{WorldState, first_world, journal_limit};
+ghost use Rattle.cluster_core.specs.rule.World.{first_world, journal_limit};
 ghost use Rattle.cluster_core.specs.rule.Next.{next, kept_next};
 ghost use Rattle.cluster_core.specs.rule.Parts.{world_state};
 ghost use Rattle.cluster_core.specs.rule.Runs.{Leads};
-ghost use Rattle.cluster_core.specs.rule.Journals.{RunFields, GoesOn, journal_of};
+ghost use Rattle.cluster_core.specs.rule.Journals.{RunFields, journal_of};
 ghost use Rattle.cluster_core.specs.rule.Histories.{HasOneHistory};
 ghost use Rattle.cluster_core.specs.rule.Safe.{IsSafe};
 ghost use Rattle.book.specs.rule.Fields.{SeatFields, StampFields};
@@ -68,23 +68,6 @@ impl<J: Name> Model for Book<J> {
     ghost invariant = { λ b. AreReached (world_state b.run.world) b.spots };
 }
 
-// Makes the run go on by an event that is not refused. Only memory can be refused.
-fn take_next(run: &mut Run, alloc: Global, event: Event) -> Result<(), AllocError>
-    requires room { length run.old.entries < journal_limit }
-    requires leads_on { (made : WorldState × Entry) × (next (world_state run.old.world) event ≡ Ok made) }
-    ensures ok { OnOk result (GoesOn run.old event run.new) }
-    ensures unchanged { OnErr result (run.new ≡ run.old) }
-{
-    let _ = run.len(); // tells the proof that the world counts the entries
-    let Err(refusal) = run.take(alloc, event) else {
-        return Ok(());
-    };
-    match refusal {
-        Refused::NoMemory => Err(AllocError),
-        _ => unreachable!(),
-    }
-}
-
 impl<J: Name> Book<J> {
     /// A book with an empty journal, and the first seats: of its nodes and then of its token servers, each by number
     /// from 1. Without a trail each commit compares the seat's state with the book's copy. With one it does so only
@@ -135,7 +118,8 @@ impl<J: Name> Book<J> {
 
     /// Commits the step that was prepared from the seat: it is the next of the run, its entry comes last, and the
     /// seat's state and the book's copy become the step's. Commits from other seats since then don't hinder it.
-    /// `seen` marks the last entry that the actor has seen, if any.
+    /// `seen` marks the last entry that the actor has seen, if any. Nothing is planned here: the book keeps the seat's
+    /// copy, with the step made, and the seat gets the book's, which is behind until `Seat::catch_up`.
     ///
     /// # Errors
     /// In this order: `JournalFull` where the journal has 1,048,576 entries; `Stale` where the step names another
@@ -158,11 +142,12 @@ impl<J: Name> Book<J> {
         let seen = seen_of(seen);
         accepts(&self.run, &self.spots, seat, &prepared, seen)?;
         let parts = prepared.into_parts();
-        take_next(&mut self.run, alloc, parts.event).map_err(|_| CommitError::NoMemory)?;
-        let outcome = seat.advance(parts.edit, parts.outcome);
-        let spot = self.spots.note(seat.state());
+        let _ = self.run.len(); // tells the proof that the world counts the entries
+        seat.step_in(alloc, &mut self.run, parts.step, parts.owed)
+            .map_err(|_| CommitError::NoMemory)?;
+        let spot = self.spots.note(seat.standing());
         seat.stand_at(spot);
-        Ok(Stamp::new(self.run.len(), parts.told, outcome, seen))
+        Ok(Stamp::new(self.run.len(), parts.told, parts.answer, seen))
     }
 
     /// Declares the node failed: from here on each commit of its incarnation is refused.

@@ -1,9 +1,9 @@
 //! The spots of the actors' last states in a book's trail.
-ghost use Rattle.std.specs.Prelude.{◌≡◌, IfOk, IfSome, Some};
-ghost use Rattle.book.specs.code.LastSpots.{IsLastSpot, Noted, Forgotten, place_of, AreReached};
-ghost use Rattle.book.specs.rule.States.{actor_of};
+ghost use Rattle.std.specs.Prelude.{◌≡◌, IfOk, IfSome};
+ghost use Rattle.book.specs.code.LastSpots.{IsLastSpot, IsSpotOf, Noted, Forgotten, place_of, AreReached};
+ghost use Rattle.book.specs.rule.Fields.{standing_state};
 
-use crate::state::State;
+use crate::standing::Standing;
 use messages::actor::Actor;
 use model::limits::MOST_NODES;
 use std::alloc::{AllocError, Global};
@@ -12,12 +12,12 @@ use trail::name::Name;
 use trail::spot::Spot;
 use trail::trail::Trail;
 
-/// The trail of all states committed to a book, and for each actor the spot of its last state, if it is known. A seat
+/// The trail of where the seats of a book stood behind each commit, and for each actor the spot of its last state, if it is known. A seat
 /// whose state stands at that spot has the state of the book's copy, without a comparison of states.
 #[derive(Drop)]
 pub(crate) struct LastSpots<J: Name> {
-    trail: Option<Trail<J, State>>,
-    last: Vec<Option<Spot<J, State>>>,
+    trail: Option<Trail<J, Standing>>,
+    last: Vec<Option<Spot<J, Standing>>>,
 }
 
 impl<J: Name> Model for LastSpots<J> {
@@ -46,7 +46,7 @@ impl<J: Name> LastSpots<J> {
     /// `AllocError` where a request for memory was refused.
     pub(crate) fn new(
         alloc: Global,
-        trail: Option<Trail<J, State>>,
+        trail: Option<Trail<J, Standing>>,
         files: u16,
     ) -> Result<LastSpots<J>, AllocError>
         ensures { (w : _) → IfOk result (λ spots. AreReached w spots) }
@@ -61,22 +61,22 @@ impl<J: Name> LastSpots<J> {
     }
 
     /// The spot of the actor's last state, if it is known.
-    pub(crate) fn at(&self, actor: Actor) -> Option<&Spot<J, State>>
+    pub(crate) fn at(&self, actor: Actor) -> Option<&Spot<J, Standing>>
         ensures { IfSome result (λ spot. IsLastSpot self.now (place_of actor) spot.now) }
     {
         self.last.get(place_of(actor))?.as_ref()
     }
 
     /// Notes the new state of its actor. Gives the state's spot, if it can be known.
-    pub(crate) fn note(&mut self, state: &State) -> Option<Spot<J, State>>
-        ensures spot { IfSome result (λ spot. spot.item ≡ Some state.now) }
-        ensures noted { Noted self.old state.now self.new }
+    pub(crate) fn note(&mut self, standing: &Standing) -> Option<Spot<J, Standing>>
+        ensures spot { IfSome result (λ spot. IsSpotOf spot (standing_state standing.now)) }
+        ensures noted { Noted self.old (standing_state standing.now) self.new }
     {
         let spot = match &mut self.trail {
-            Some(trail) => trail.push(state),
+            Some(trail) => trail.push(standing),
             None => None,
         };
-        if let Some(last) = self.last.get_mut(place_of(state.actor())) {
+        if let Some(last) = self.last.get_mut(place_of(standing.actor())) {
             *last = spot.as_ref().map(|spot| spot.again());
         }
         spot

@@ -1,7 +1,7 @@
 //! The trail for a new book.
 ghost use Rattle.std.specs.Prelude.{◌≡◌};
 
-use crate::state::State;
+use crate::standing::Standing;
 use std::marker::Model;
 use trail::name::Name;
 use trail::trail::Trail;
@@ -11,7 +11,7 @@ use trail::unnamed::Unnamed;
 /// name ties a seat to its book's trail, in proofs only. Making one takes no memory.
 #[derive(Drop)]
 pub struct NewTrail {
-    states: Unnamed<State>,
+    states: Unnamed<Standing>,
 }
 
 impl Model for NewTrail {
@@ -31,7 +31,7 @@ impl NewTrail {
     }
 
     /// The trail under the name that the caller picked for it.
-    pub(crate) fn named<J: Name>(self) -> Trail<J, State>
+    pub(crate) fn named<J: Name>(self) -> Trail<J, Standing>
         requires { self ≡ J.trail }
     {
         self.states.named()

@@ -1,28 +1,31 @@
 //! A prepared step: planned from a seat's state, not yet committed.
-ghost use Rattle.std.specs.Prelude.{◌≡◌, ◌<◌, ◌↔◌, IsTrue};
+ghost use Rattle.std.specs.Prelude.{◌≡◌, ◌<◌, ◌↔◌, IfOk, IsTrue};
 ghost use Rattle.book.specs.rule.Commits.{Names};
+ghost use Rattle.book.specs.rule.Fields.{seat_state};
 ghost use Rattle.book.specs.rule.States.{actor_of, incarnation_of};
 
+use crate::outcomes::copy_of;
+use crate::planned_step::PlannedStep;
 use crate::seat::Seat;
-use crate::state_edit::StateEdit;
 use messages::actor::Actor;
 use messages::event::Event;
 use messages::outcome::Outcome;
+use std::alloc::{AllocError, Global};
 use std::marker::Model;
 use trail::name::Name;
 
 /// A step of an actor that was planned from its seat's state and may be committed from that seat: its event, its
-/// change of the state, and its outcome. It has the event twice, for the entry and for the stamp, so that a commit
-/// needs no copy.
+/// change of the state, and its outcome. It has the event and the outcome once more for the stamp, and the event for
+/// the seat, so that a commit needs no copy.
 #[derive(Drop)]
 pub struct Prepared {
     actor: Actor,
     incarnation: u16,
     commits: u64,
-    event: Event,
+    step: PlannedStep,
     told: Event,
-    edit: StateEdit,
-    outcome: Outcome,
+    answer: Outcome,
+    owed: Event,
 }
 
 impl Model for Prepared {
@@ -31,18 +34,18 @@ impl Model for Prepared {
 
     ghost Value = { PreparedFields };
 
-    ghost view = { λ p. record { actor = p.actor; incarnation = p.incarnation; commits = p.commits; event = p.event; edit = p.edit; outcome = p.outcome } };
+    ghost view = { λ p. record { actor = p.actor; incarnation = p.incarnation; commits = p.commits; event = p.step.event; edit = p.step.edit; outcome = p.step.outcome } };
 
-    ghost invariant = { λ p. (p.told ≡ p.event) × (p.commits < 18446744073709551615) };
+    ghost invariant = { λ p. (p.told ≡ p.step.event) × (p.answer ≡ p.step.outcome) × (p.owed ≡ p.step.event) × (p.commits < 18446744073709551615) };
 }
 
-/// The parts of a step: its event twice, its change, and its outcome.
+/// The parts of a step: for the run, for the stamp, and for the seat.
 #[derive(Drop)]
 pub(crate) struct PreparedParts {
-    pub(crate) event: Event,
+    pub(crate) step: PlannedStep,
     pub(crate) told: Event,
-    pub(crate) edit: StateEdit,
-    pub(crate) outcome: Outcome,
+    pub(crate) answer: Outcome,
+    pub(crate) owed: Event,
 }
 
 impl Prepared {
@@ -50,37 +53,40 @@ impl Prepared {
     pub fn outcome(&self) -> &Outcome
         ensures { result.now ≡ self.now.outcome }
     {
-        &self.outcome
+        &self.step.outcome
     }
 
     /// The prepared step of a seat that made fewer than 18,446,744,073,709,551,615 commits.
+    ///
+    /// # Errors
+    /// `AllocError` where a request for memory was refused.
     pub(crate) fn new<J: Name>(
+        alloc: Global,
         seat: &Seat<J>,
-        events: (Event, Event),
-        edit: StateEdit,
-        outcome: Outcome,
-    ) -> Prepared
+        step: PlannedStep,
+    ) -> Result<Prepared, AllocError>
         requires unspent { seat.now.commits < 18446744073709551615 }
-        requires same_event { events.1 ≡ events.0 }
-        ensures { result ≡ record { actor = actor_of seat.now.state; incarnation = incarnation_of seat.now.state; commits = seat.now.commits; event = events.0; edit = edit; outcome = outcome } }
+        ensures { IfOk result (λ p. p ≡ record { actor = actor_of (seat_state seat.now); incarnation = incarnation_of (seat_state seat.now); commits = seat.now.commits; event = step.event; edit = step.edit; outcome = step.outcome }) }
     {
-        let (event, told) = events;
-        Prepared {
+        let told = step.event.copy()?;
+        let owed = step.event.copy()?;
+        let answer = copy_of(alloc, &step.outcome)?;
+        Ok(Prepared {
             actor: seat.actor(),
             incarnation: seat.incarnation(),
             commits: seat.commits(),
-            event,
+            step,
             told,
-            edit,
-            outcome,
-        }
+            answer,
+            owed,
+        })
     }
 
     /// The event of the step.
     pub(crate) fn event(&self) -> &Event
         ensures { result.now ≡ self.now.event }
     {
-        &self.event
+        &self.step.event
     }
 
     /// Whether the step names the seat's actor, incarnation and number of commits.
@@ -95,23 +101,25 @@ impl Prepared {
 
     /// The parts of the step.
     pub(crate) fn into_parts(self) -> PreparedParts
-        ensures event { result.event ≡ self.event }
+        ensures event { result.step.event ≡ self.event }
+        ensures edit { result.step.edit ≡ self.edit }
+        ensures outcome { result.step.outcome ≡ self.outcome }
         ensures told { result.told ≡ self.event }
-        ensures edit { result.edit ≡ self.edit }
-        ensures outcome { result.outcome ≡ self.outcome }
+        ensures answer { result.answer ≡ self.outcome }
+        ensures owed { result.owed ≡ self.event }
     {
         let Prepared {
-            event,
+            step,
             told,
-            edit,
-            outcome,
+            answer,
+            owed,
             ..
         } = self;
         PreparedParts {
-            event,
+            step,
             told,
-            edit,
-            outcome,
+            answer,
+            owed,
         }
     }
 }

@@ -1,47 +1,60 @@
 //! A seat: the right to commit the steps of one actor.
-ghost use Rattle.std.specs.Prelude.{◌≡◌, ◌≢◌, ◌<◌, ◌≤◌, ◌+◌, IfOk, IfErr, IfSome, Err, Some};
+ghost use Rattle.std.specs.Prelude.{◌≡◌, ◌≢◌, ◌<◌, ◌≤◌, ◌+◌, true, IfOk, IfErr, IfSome, OnOk, OnErr, Err, None};
+ghost use Rattle.cluster_core.specs.rule.World.{journal_limit};
+ghost use Rattle.cluster_core.specs.rule.Next.{is_known};
+ghost use Rattle.cluster_core.specs.rule.Parts.{world_state};
+ghost use Rattle.cluster_core.specs.rule.Journals.{GoesOn};
 ghost use Rattle.book.specs.rule.Commits.{Names, IsStepFrom};
-ghost use Rattle.book.specs.rule.States.{actor_of, incarnation_of, Fits, Becomes, Rejects};
+ghost use Rattle.book.specs.rule.Fields.{seat_state, IsLevel, IsSameSeat};
+ghost use Rattle.book.specs.rule.States.{actor_of, incarnation_of, StepsTo, HasState, Rejects};
+ghost use Rattle.book.specs.code.Copies.{Fits, Plans};
+ghost use Rattle.book.specs.code.LastSpots.{IsSpotOf};
 
+use crate::planned_step::PlannedStep;
 use crate::prepared::Prepared;
+use crate::standing::Standing;
 use crate::state::State;
-use crate::state_edit::StateEdit;
+use cluster_core::run::Run;
 use messages::actor::Actor;
 use messages::event::Event;
-use messages::outcome::Outcome;
 use messages::refusal::StepError;
-use std::alloc::Global;
+use std::alloc::{AllocError, Global};
 use std::marker::Model;
 use trail::name::Name;
 use trail::spot::Spot;
 
-/// The right to commit the steps of one actor: its state, the number of its commits, and the spot of the last
+/// The right to commit the steps of one actor: where it stands, the number of its commits, and the spot of the last
 /// committed state in the book's trail, if it is known. The type is generic in the name of that trail.
+///
+/// At a commit the seat's copy of the state, from which the step was planned, and the book's are exchanged, and the
+/// step is made on the book's new one. On the seat's it is planned and made later, without the book's lock
+/// (`catch_up`): until then the seat is behind by the step's event.
 #[derive(Drop)]
 pub struct Seat<J: Name> {
-    state: State,
+    standing: Standing,
     commits: u64,
-    spot: Option<Spot<J, State>>,
+    spot: Option<Spot<J, Standing>>,
 }
 
 impl<J: Name> Model for Seat<J> {
-    ghost use Rattle.std.specs.Prelude.{◌≡◌, IfSome, Some};
-    ghost use Rattle.book.specs.rule.Fields.{SeatFields};
+    ghost use Rattle.std.specs.Prelude.{IfSome};
+    ghost use Rattle.book.specs.rule.Fields.{SeatFields, standing_state};
+    ghost use Rattle.book.specs.code.LastSpots.{IsSpotOf};
 
     ghost Value = { SeatFields };
 
-    ghost view = { λ s. record { state = s.state; commits = s.commits } };
+    ghost view = { λ s. record { standing = s.standing; commits = s.commits } };
 
-    ghost invariant = { λ s. IfSome s.spot (λ spot. spot.item ≡ Some s.state) };
+    ghost invariant = { λ s. IfSome s.spot (λ spot. IsSpotOf spot (standing_state s.standing)) };
 }
 
 impl<J: Name> Seat<J> {
     /// The seat of an actor that has committed nothing.
-    pub(crate) fn new(state: State) -> Seat<J>
-        ensures { result ≡ record { state = state; commits = 0 } }
+    pub(crate) fn new(copy: State) -> Seat<J>
+        ensures { result ≡ record { standing = record { copy = copy; behind = None }; commits = 0 } }
     {
         Seat {
-            state,
+            standing: Standing::at(copy),
             commits: 0,
             spot: None,
         }
@@ -49,17 +62,17 @@ impl<J: Name> Seat<J> {
 
     /// The actor of the seat.
     pub fn actor(&self) -> Actor
-        ensures { result ≡ actor_of self.now.state }
+        ensures { result ≡ actor_of (seat_state self.now) }
     {
-        self.state.actor()
+        self.standing.actor()
     }
 
     /// The incarnation of the node, or the epoch of the token server, from 1.
     pub fn incarnation(&self) -> u16
-        ensures value { result ≡ incarnation_of self.now.state }
+        ensures value { result ≡ incarnation_of (seat_state self.now) }
         ensures from_one { 1 ≤ result }
     {
-        self.state.incarnation()
+        self.standing.incarnation()
     }
 
     /// The number of steps that were committed from the seat.
@@ -69,63 +82,103 @@ impl<J: Name> Seat<J> {
         self.commits
     }
 
-    /// The state of the actor.
-    pub(crate) fn state(&self) -> &State
-        ensures { result.now ≡ self.now.state }
+    /// Where the seat stands.
+    pub(crate) fn standing(&self) -> &Standing
+        ensures { result.now ≡ self.now.standing }
     {
-        &self.state
+        &self.standing
     }
 
     /// The spot of the state in the book's trail, if it is known.
-    pub(crate) fn spot(&self) -> Option<&Spot<J, State>>
-        ensures { IfSome result (λ spot. spot.now.item ≡ Some self.now.state) }
+    pub(crate) fn spot(&self) -> Option<&Spot<J, Standing>>
+        ensures { IfSome result (λ spot. IsSpotOf spot.now (seat_state self.now)) }
     {
         self.spot.as_ref()
     }
 
     /// Notes the spot of the state in the book's trail, if it is known.
-    pub(crate) fn stand_at(&mut self, spot: Option<Spot<J, State>>)
-        requires { IfSome spot (λ spot. spot.item ≡ Some self.old.state) }
+    pub(crate) fn stand_at(&mut self, spot: Option<Spot<J, Standing>>)
+        requires { IfSome spot (λ spot. IsSpotOf spot (seat_state self.old)) }
         ensures { self.new ≡ self.old }
     {
         self.spot = spot;
     }
 
-    /// Plans the actor's step at an event, from the seat's state. It takes no lock, its cost is that of the step's
-    /// change, and the seat stays as it is.
+    /// Makes the step of the last commit on the seat's own copy, if it was not made yet. It takes no lock, and its
+    /// cost is that of the step. (`prepare` does so first, where this was not called.)
     ///
     /// # Errors
-    /// In this order: `Spent` where 18,446,744,073,709,551,615 steps were committed from the seat; `Stranger` where
-    /// the actor takes no such event; what the actor's step refuses, `Stranger`, `Busy` or `Spent`; `NoMemory` where
-    /// a request for memory was refused, which may come before the actor's `Spent`.
-    pub fn prepare(&self, alloc: Global, event: Event) -> Result<Prepared, StepError>
-        ensures event { IfOk result (λ p. p.event ≡ event) }
-        ensures names { IfOk result (λ p. Names p self.now) }
-        ensures step { IfOk result (λ p. IsStepFrom self.now p) }
-        ensures spent { self.now.commits ≡ 18446744073709551615 → result ≡ Err StepError.Spent }
-        ensures err { self.now.commits < 18446744073709551615 → IfErr result (λ e. e ≢ StepError.NoMemory → Rejects self.now.state event e) }
+    /// `AllocError` where a request for memory was refused, which is none if the step was made. The seat is then as it
+    /// was.
+    pub fn catch_up(&mut self, alloc: Global) -> Result<(), AllocError>
+        ensures level { OnOk result (IsLevel self.new) }
+        ensures sure { IsLevel self.old → OnErr result ⊥ }
+        ensures same { IsSameSeat self.old self.new }
+        ensures unchanged { OnErr result (self.new ≡ self.old) }
+    {
+        self.standing.catch_up(alloc)
+    }
 
-        // A refusal for want of memory takes the place of no other refusal but `Spent`.
-        ensures refused { self.now.commits < 18446744073709551615 → (r : StepError) → r ≢ StepError.Spent → Rejects self.now.state event r → result ≡ Err r }
+    /// Plans the actor's step at an event, from the seat's state. It takes no lock, and its cost is that of the step's
+    /// change. The seat stays the same, and its copy is level then.
+    ///
+    /// # Errors
+    /// In this order: `Spent` where 18,446,744,073,709,551,615 steps were committed from the seat; `NoMemory` where
+    /// the seat was behind, and a request for memory for that step was refused; `Stranger` where the actor takes no
+    /// such event; what the actor's step refuses, `Stranger`, `Busy` or `Spent`; `NoMemory` where a request for memory
+    /// was refused, which may come before the actor's `Spent`.
+    pub fn prepare(&mut self, alloc: Global, event: Event) -> Result<Prepared, StepError>
+        ensures same { IsSameSeat self.old self.new }
+        ensures event { IfOk result (λ p. p.event ≡ event) }
+        ensures names { IfOk result (λ p. Names p self.new) }
+        ensures step { IfOk result (λ p. IsStepFrom self.new p) }
+        ensures spent { self.old.commits ≡ 18446744073709551615 → result ≡ Err StepError.Spent }
+        ensures err { self.old.commits < 18446744073709551615 → IfErr result (λ e. e ≢ StepError.NoMemory → Rejects (seat_state self.old) event e) }
+
+        // A refusal for want of memory takes the place of no other refusal but `Spent`, unless the seat is behind.
+        ensures refused { self.old.commits < 18446744073709551615 → IsLevel self.old → (r : StepError) → r ≢ StepError.Spent → Rejects (seat_state self.old) event r → result ≡ Err r }
     {
         if self.commits == u64::MAX {
             return Err(StepError::Spent);
         }
-        let (edit, outcome) = self.state.plan(alloc, &event)?;
-        let told = event.copy()?;
-        Ok(Prepared::new(self, (event, told), edit, outcome))
+        self.catch_up(alloc)?;
+        let (edit, outcome) = self.standing.copy().plan(alloc, &event)?;
+        let step = PlannedStep {
+            event,
+            edit,
+            outcome,
+        };
+        Ok(Prepared::new(alloc, self, step)?)
     }
 
-    /// Makes a planned change of the state, and gives the outcome back. Takes no memory.
-    pub(crate) fn advance(&mut self, edit: StateEdit, outcome: Outcome) -> Outcome
+    /// The run takes the event by the step, which was planned from the seat's copy. The seat is then behind by `owed`,
+    /// which is the step's event.
+    ///
+    /// # Errors
+    /// `AllocError` where a request for memory was refused. The run and the seat are then as they were.
+    pub(crate) fn step_in(
+        &mut self,
+        alloc: Global,
+        run: &mut Run,
+        step: PlannedStep,
+        owed: Event,
+    ) -> Result<(), AllocError>
         requires unspent { self.old.commits < 18446744073709551615 }
-        requires fits { Fits self.old.state edit }
-        ensures state { Becomes self.old.state edit self.new.state }
-        ensures commits { self.new.commits ≡ self.old.commits + 1 }
-        ensures outcome { result ≡ outcome }
+        requires level { IsLevel self.old }
+        requires room { run.old.world.length < journal_limit }
+        requires known { is_known (world_state run.old.world) step.event ≡ true }
+        requires stands { HasState (world_state run.old.world) (seat_state self.old) }
+        requires fits { Fits self.old.standing.copy step.edit }
+        requires plans { Plans self.old.standing.copy step.event step.edit step.outcome }
+        requires owed { owed ≡ step.event }
+        ensures ok { OnOk result (GoesOn run.old step.event run.new) }
+        ensures steps { OnOk result (StepsTo (seat_state self.old) step.event (seat_state self.new) step.outcome) }
+        ensures commits { OnOk result (self.new.commits ≡ self.old.commits + 1) }
+        ensures unchanged { OnErr result ((run.new ≡ run.old) × (self.new ≡ self.old)) }
     {
+        self.standing.step_in(alloc, run, step, owed)?;
         self.commits += 1;
         self.spot = None;
-        self.state.apply(edit, outcome)
+        Ok(())
     }
 }

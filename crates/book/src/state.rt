@@ -1,5 +1,5 @@
-//! The state of one actor, a node or a token server.
-ghost use Rattle.std.specs.Prelude.{◌≡◌, ◌≢◌, ◌≤◌, ◌↔◌, Ok, Err, IfOk, IfErr, IsTrue};
+//! The copy of the state of one actor, a node or a token server.
+ghost use Rattle.std.specs.Prelude.{◌≡◌, ◌≢◌, ◌≤◌, ◌<◌, ◌↔◌, true, Ok, Err, IfOk, IfErr, OnOk, OnErr, IsTrue};
 ghost use Rattle.node_core.specs.rule.Parts.{node_state};
 ghost use Rattle.token_server.specs.rule.Parts.{server_state};
 ghost use Rattle.cluster_core.specs.rule.Parts.{world_state};
@@ -8,8 +8,13 @@ ghost use Rattle.token_server.specs.rule.Server.{is_server};
 ghost use Rattle.cluster_core.specs.rule.Actors.{node_step, server_step};
 ghost use Rattle.node_core.specs.code.Plans.{planned as reached, Fits as NodeFits};
 ghost use Rattle.token_server.specs.code.Edits.{planned, Fits as ServerFits};
+ghost use Rattle.cluster_core.specs.rule.World.{journal_limit};
+ghost use Rattle.cluster_core.specs.rule.Next.{is_known};
+ghost use Rattle.cluster_core.specs.rule.Journals.{GoesOn};
 
+use crate::planned_step::PlannedStep;
 use crate::state_edit::StateEdit;
+use cluster_core::run::Run;
 use cluster_core::world::World;
 use messages::actor::Actor;
 use messages::event::Event;
@@ -18,12 +23,12 @@ use messages::refusal::StepError;
 use node_core::change::NodeChange;
 use node_core::event::NodeEvent;
 use node_core::node::Node;
-use std::alloc::Global;
+use std::alloc::{AllocError, Global};
 use token_server::change::ServerChange;
 use token_server::event::ServerEvent;
 use token_server::server::Server;
 
-/// The state of one actor: a node by its number, from 1, or the token server of a file by the file's number, from 1.
+/// A copy of the state of one actor: a node by its number, from 1, or the token server of a file by the file's number, from 1.
 #[derive(Drop)]
 pub(crate) enum State {
     OfNode { number: u8, node: Box<Node> },
@@ -95,11 +100,12 @@ fn planned_server(
 }
 
 impl State {
-    ghost use Rattle.book.specs.rule.States.{actor_of, incarnation_of, Fits, Plans, Becomes, Rejects, HasState, is_declared};
+    ghost use Rattle.book.specs.rule.States.{actor_of, incarnation_of, Rejects, HasState, is_declared};
+    ghost use Rattle.book.specs.code.Copies.{state_of, Fits, Plans, Becomes};
 
     /// The actor of the state.
     pub(crate) fn actor(&self) -> Actor
-        ensures { result ≡ actor_of self.now }
+        ensures { result ≡ actor_of (state_of self.now) }
     {
         match self {
             State::OfNode { number, .. } => Actor::Node(*number),
@@ -109,7 +115,7 @@ impl State {
 
     /// The incarnation of the node, or the epoch of the token server, from 1.
     pub(crate) fn incarnation(&self) -> u16
-        ensures value { result ≡ incarnation_of self.now }
+        ensures value { result ≡ incarnation_of (state_of self.now) }
         ensures from_one { 1 ≤ result }
     {
         match self {
@@ -129,8 +135,8 @@ impl State {
     ) -> Result<(StateEdit, Outcome), StepError>
         ensures fits { IfOk result (λ r. Fits self.now r.0) }
         ensures ok { IfOk result (λ r. Plans self.now event.now r.0 r.1) }
-        ensures err { IfErr result (λ e. e ≢ StepError.NoMemory → Rejects self.now event.now e) }
-        ensures refused { (r : StepError) → r ≢ StepError.Spent → Rejects self.now event.now r → result ≡ Err r }
+        ensures err { IfErr result (λ e. e ≢ StepError.NoMemory → Rejects (state_of self.now) event.now e) }
+        ensures refused { (r : StepError) → r ≢ StepError.Spent → Rejects (state_of self.now) event.now r → result ≡ Err r }
     {
         match self {
             State::OfNode { number, node } => {
@@ -162,9 +168,50 @@ impl State {
         }
     }
 
+    /// The run takes the event by the step, which was planned from this copy. The run's own copy, which is equal, is
+    /// exchanged for this one: so this one is then as the actor was before the step.
+    ///
+    /// # Errors
+    /// `AllocError` where a request for memory was refused. The run and the copy are then as they were.
+    pub(crate) fn step_in(
+        &mut self,
+        alloc: Global,
+        run: &mut Run,
+        step: PlannedStep,
+    ) -> Result<(), AllocError>
+        requires room { run.old.world.length < journal_limit }
+        requires known { is_known (world_state run.old.world) step.event ≡ true }
+        requires stands { HasState (world_state run.old.world) (state_of self.old) }
+        requires fits { Fits self.old step.edit }
+        requires plans { Plans self.old step.event step.edit step.outcome }
+        ensures ok { OnOk result (GoesOn run.old step.event run.new) }
+        ensures state { state_of self.new ≡ state_of self.old }
+        ensures unchanged { OnErr result ((run.new ≡ run.old) × (self.new ≡ self.old)) }
+    {
+        let PlannedStep {
+            event,
+            edit,
+            outcome,
+        } = step;
+        match self {
+            State::OfNode { number, node } => match edit {
+                StateEdit::Node(edit) => {
+                    run.step_node(alloc, event, *number, node, NodeChange { edit, outcome })
+                }
+                StateEdit::Server(_) => unreachable!(),
+            },
+            State::OfServer { file, server } => match edit {
+                StateEdit::Server(edit) => {
+                    run.step_server(alloc, event, *file, server, ServerChange { edit, outcome })
+                }
+                StateEdit::Node(_) => unreachable!(),
+            },
+        }
+    }
+
     /// Whether the actor is alive in the world, and in this state.
     pub(crate) fn stands_in(&self, world: &World) -> bool
-        ensures { IsTrue result ↔ HasState (world_state world.now) self.now }
+        ensures { IsTrue result ↔ HasState (world_state world.now) (state_of self.now) }
     {
         match self {
             State::OfNode { number, node } => world.has_node(*number, node),
@@ -174,7 +221,7 @@ impl State {
 
     /// Whether the node's incarnation, or the token server's epoch, was declared failed in the world.
     pub(crate) fn is_declared_in(&self, world: &World) -> bool
-        ensures { result ≡ is_declared (world_state world.now) self.now }
+        ensures { result ≡ is_declared (world_state world.now) (state_of self.now) }
     {
         match self {
             State::OfNode { number, node } => world.has_declared(*number, node.incarnation()),

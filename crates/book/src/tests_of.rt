@@ -1,7 +1,8 @@
 //! The tests that a commit makes.
 ghost use Rattle.std.specs.Prelude.{◌≡◌, ◌<◌, ◌≤◌, ◌≢◌, ◌↔◌, Err, IsTrue, MatchResult, option_copied};
 ghost use Rattle.cluster_core.specs.rule.Parts.{world_state};
-ghost use Rattle.book.specs.rule.Commits.{Accepts, Refuses, seen_at};
+ghost use Rattle.book.specs.rule.Commits.{Names, Accepts, Refuses, seen_at};
+ghost use Rattle.book.specs.rule.Fields.{seat_state, IsLevel};
 ghost use Rattle.book.specs.code.LastSpots.{AreReached};
 ghost use Rattle.book.specs.rule.States.{HasState};
 
@@ -27,15 +28,16 @@ pub(crate) fn seen_of(seen: Option<&Mark>) -> u32
 // Whether the seat's actor is alive in the world and in the seat's state. The spots tell it, or a comparison of
 // states does.
 fn stands<J: Name>(spots: &LastSpots<J>, seat: &Seat<J>, world: &World) -> bool
-    requires { AreReached (world_state world.now) spots.now }
-    ensures { IsTrue result ↔ HasState (world_state world.now) seat.now.state }
+    requires reached { AreReached (world_state world.now) spots.now }
+    requires level { IsLevel seat.now }
+    ensures { IsTrue result ↔ HasState (world_state world.now) (seat_state seat.now) }
 {
     if let (Some(last), Some(spot)) = (spots.at(seat.actor()), seat.spot()) {
         if last.is_at(spot) {
             return true;
         }
     }
-    seat.state().stands_in(world)
+    seat.standing().stands_in(world)
 }
 
 /// Whether the run may go on by the step of the seat, whose actor has seen the journal up to that position.
@@ -49,7 +51,8 @@ pub(crate) fn accepts<J: Name>(
     prepared: &Prepared,
     seen: u32,
 ) -> Result<(), CommitError>
-    requires { AreReached (world_state run.now.world) spots.now }
+    requires reached { AreReached (world_state run.now.world) spots.now }
+    requires level { Names prepared.now seat.now → IsLevel seat.now }
     ensures tests { MatchResult result (λ _. Accepts run.now seat.now prepared.now seen) (λ e. Refuses run.now seat.now prepared.now seen e) }
     ensures definite { result ≢ Err CommitError.NoMemory }
 {
@@ -63,7 +66,7 @@ pub(crate) fn accepts<J: Name>(
     if !world.knows(prepared.event()) {
         return Err(CommitError::Stranger);
     }
-    if seat.state().is_declared_in(world) {
+    if seat.standing().is_declared_in(world) {
         return Err(CommitError::Fenced);
     }
     if !stands(spots, seat, world) || run.len() < seen {

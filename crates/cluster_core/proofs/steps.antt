@@ -16,4 +16,5 @@ pub mod FailuresRow
 pub mod MemberSteps
 pub mod EpochSteps
 pub mod CertainRefusals
+pub mod Copies
 pub mod Actors

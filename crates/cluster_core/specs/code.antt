@@ -1,4 +1,5 @@
 pub mod Changes
+pub mod Copies
 pub mod SentIndexes
 pub mod Calls
 pub mod Placement

@@ -30,6 +30,7 @@ use std::alloc::{AllocError, Global};
 use std::marker::Model;
 
 mod states;
+mod steps;
 
 /// A run of a cluster that goes on: its entries, and the world to which they lead.
 #[derive(Drop)]

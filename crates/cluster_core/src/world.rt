@@ -33,6 +33,7 @@ use std::marker::Model;
 use token_server::server::Server;
 
 mod changes;
+mod copies;
 mod events;
 mod listings;
 mod plans;

@@ -90,7 +90,7 @@ fn begin_both<J: Name>(opened: &mut BookWithSeats<J>, alloc: Global) -> Option<b
 // Whether an actor prepares no event of another, and a book takes no step that names an incarnation that was not declared.
 fn keeps_strangers_out<J: Name>(opened: &mut BookWithSeats<J>, alloc: Global) -> Option<bool> {
     let BookWithSeats { book, seats } = opened;
-    let foreign = seats.first()?.prepare(alloc, spawn(2)).err();
+    let foreign = seats.first_mut()?.prepare(alloc, spawn(2)).err();
     let news = ServerInput::Learn {
         node: 1,
         incarnation: 1,

@@ -9,16 +9,16 @@ use Rattle.cluster_core.specs.rule.Actors.{member_of}
 use Rattle.cluster_core.specs.rule.Parts.{world_state}
 use Rattle.cluster_core.specs.rule.Journals.{RunFields, GoesOn}
 use Rattle.book.specs.rule.States.{actor_of, incarnation_of, is_declared}
-use Rattle.book.specs.rule.Fields.{SeatFields, StampFields}
+use Rattle.book.specs.rule.Fields.{SeatFields, seat_state, StampFields}
 use Rattle.book.specs.code.Receipts.{IsStampOf}
 use Rattle.book.specs.rule.Commits.{IsSeatOf}
 
 -- the book goes on by the change of a member: fenced seats stay fenced, and stamps of the book and seats of other actors stay the book's
 pub record Turns (b : RunFields) (event : MemberEvent) (b' : RunFields) : Type 0 where
   pub goes : GoesOn b (Member event) b'
-  pub fences : (o : SeatFields) → is_declared (world_state b.world) o.state ≡ true → is_declared (world_state b'.world) o.state ≡ true
+  pub fences : (o : SeatFields) → is_declared (world_state b.world) (seat_state o) ≡ true → is_declared (world_state b'.world) (seat_state o) ≡ true
   pub stamps : (o : StampFields) → IsStampOf b.entries o → IsStampOf b'.entries o
-  pub others : (o : SeatFields) → actor_of o.state ≢ member_of event → IsSeatOf b o → IsSeatOf b' o
+  pub others : (o : SeatFields) → actor_of (seat_state o) ≢ member_of event → IsSeatOf b o → IsSeatOf b' o
 
 -- the stamp is of the last entry, which this change made; its actor had seen nothing
 pub record IsLastStamp (b : RunFields) (event : MemberEvent) (t : StampFields) : Type 0 where
@@ -29,11 +29,11 @@ pub record IsLastStamp (b : RunFields) (event : MemberEvent) (t : StampFields) :
 
 -- each seat of the actor in that incarnation, or epoch, is fenced
 abbrev pub AreFenced : RunFields → Actor → ℕ → Type 0
-AreFenced b a i = (s : SeatFields) → actor_of s.state ≡ a → incarnation_of s.state ≡ i → 1 ≤ incarnation_of s.state → is_declared (world_state b.world) s.state ≡ true
+AreFenced b a i = (s : SeatFields) → actor_of (seat_state s) ≡ a → incarnation_of (seat_state s) ≡ i → 1 ≤ incarnation_of (seat_state s) → is_declared (world_state b.world) (seat_state s) ≡ true
 
 -- the seat is that of the actor as it begins again
 pub record BeginsAgain (b : RunFields) (a : Actor) (s : SeatFields) : Type 0 where
-  pub actor : actor_of s.state ≡ a
+  pub actor : actor_of (seat_state s) ≡ a
   pub commits : s.commits ≡ 0
   pub mine : IsSeatOf b s
 

@@ -7,21 +7,22 @@ use Rattle.cluster_core.specs.rule.Journals.{RunFields}
 use Rattle.cluster_core.specs.rule.Actors.{Records}
 use Rattle.book.specs.declared.commit_error.CommitError.{CommitError}
 use Rattle.book.specs.declared.commit_error.CommitError.TheVariants.{JournalFull, Stale, Stranger, Fenced, NoMemory}
-use Rattle.book.specs.rule.States.{actor_of, incarnation_of, Fits, Plans, StepsTo, HasState, is_declared, made_by}
-use Rattle.book.specs.rule.Fields.{SeatFields, PreparedFields, StampFields}
+use Rattle.book.specs.rule.States.{actor_of, incarnation_of, StepsTo, HasState, is_declared, made_by}
+use Rattle.book.specs.rule.Fields.{SeatFields, seat_state, IsLevel, PreparedFields, StampFields}
+use Rattle.book.specs.code.Copies.{Fits, Plans}
 use Rattle.book.specs.code.Receipts.{IsStampOf}
 
 -- the step names the seat's actor, incarnation and number of commits
 abbrev pub Names : PreparedFields → SeatFields → Type 0
-Names p s = (p.actor ≡ actor_of s.state) × (p.incarnation ≡ incarnation_of s.state) × (p.commits ≡ s.commits)
+Names p s = (p.actor ≡ actor_of (seat_state s)) × (p.incarnation ≡ incarnation_of (seat_state s)) × (p.commits ≡ s.commits)
 
--- the step was planned from the seat's state
+-- the step was planned from the seat's copy, which was level
 abbrev pub IsStepFrom : SeatFields → PreparedFields → Type 0
-IsStepFrom s p = Fits s.state p.edit × Plans s.state p.event p.edit p.outcome
+IsStepFrom s p = IsLevel s × Fits s.standing.copy p.edit × Plans s.standing.copy p.event p.edit p.outcome
 
 -- the seat is of the book: its actor is alive, and in the seat's state
 abbrev pub IsSeatOf : RunFields → SeatFields → Type 0
-IsSeatOf b s = HasState (world_state b.world) s.state
+IsSeatOf b s = HasState (world_state b.world) (seat_state s)
 
 -- the position of a mark, 0 for none
 abbrev pub seen_at : Option ℕ → ℕ
@@ -33,7 +34,7 @@ pub record Passes (b : RunFields) (s : SeatFields) (p : PreparedFields) : Type 0
   pub room : length b.entries < journal_limit
   pub named : Names p s
   pub known : is_known (world_state b.world) p.event ≡ true
-  pub free : is_declared (world_state b.world) s.state ≡ false
+  pub free : is_declared (world_state b.world) (seat_state s) ≡ false
 
 -- the step is accepted
 abbrev pub Accepts : RunFields → SeatFields → PreparedFields → ℕ → Type 0
@@ -44,21 +45,21 @@ abbrev pub Refuses : RunFields → SeatFields → PreparedFields → ℕ → Com
 Refuses b s p seen JournalFull = journal_limit ≤ length b.entries
 Refuses b s p seen Stale = ((length b.entries < journal_limit) × (Names p s → ⊥)) ⊎ (Passes b s p × (IsSeatOf b s → length b.entries < seen))
 Refuses b s p seen Stranger = (length b.entries < journal_limit) × Names p s × (is_known (world_state b.world) p.event ≡ false)
-Refuses b s p seen Fenced = (length b.entries < journal_limit) × Names p s × (is_known (world_state b.world) p.event ≡ true) × (is_declared (world_state b.world) s.state ≡ true)
+Refuses b s p seen Fenced = (length b.entries < journal_limit) × Names p s × (is_known (world_state b.world) p.event ≡ true) × (is_declared (world_state b.world) (seat_state s) ≡ true)
 Refuses b s p seen NoMemory = Accepts b s p seen
 
 -- the step is next, its entry last; other actors' seats stay the book's, fenced seats stay fenced, and older stamps stay the book's
 pub record Commits (b : RunFields) (s : SeatFields) (p : PreparedFields) (seen : ℕ) (b' : RunFields) (s' : SeatFields) (t : StampFields) : Type 0 where
   pub accepted : Accepts b s p seen
-  pub goes : Records b p.event (made_by (world_state b.world) p.event s'.state p.outcome) b'
-  pub step : StepsTo s.state p.event s'.state p.outcome
+  pub goes : Records b p.event (made_by (world_state b.world) p.event (seat_state s') p.outcome) b'
+  pub step : StepsTo (seat_state s) p.event (seat_state s') p.outcome
   pub commits : s'.commits ≡ s.commits + 1
   pub position : t.position ≡ length b'.entries
   pub event : t.event ≡ p.event
   pub outcome : t.outcome ≡ p.outcome
   pub seen_is : t.seen ≡ seen
   pub mine : IsSeatOf b' s'
-  pub others : (o : SeatFields) → actor_of o.state ≢ actor_of s.state → IsSeatOf b o → IsSeatOf b' o
-  pub fences : (o : SeatFields) → is_declared (world_state b.world) o.state ≡ true → is_declared (world_state b'.world) o.state ≡ true
+  pub others : (o : SeatFields) → actor_of (seat_state o) ≢ actor_of (seat_state s) → IsSeatOf b o → IsSeatOf b' o
+  pub fences : (o : SeatFields) → is_declared (world_state b.world) (seat_state o) ≡ true → is_declared (world_state b'.world) (seat_state o) ≡ true
   pub stamped : IsStampOf b'.entries t
   pub stamps : (o : StampFields) → IsStampOf b.entries o → IsStampOf b'.entries o

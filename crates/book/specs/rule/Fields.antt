@@ -1,5 +1,5 @@
 -- The fields of seats, prepared steps, stamps and receipts.
-use Rattle.std.specs.Prelude.{ℕ}
+use Rattle.std.specs.Prelude.{◌≡◌, ℕ, Option, None}
 use Rattle.model.specs.declared.call.CallId.{CallId}
 use Rattle.model.specs.declared.op.Op.{Op}
 use Rattle.model.specs.declared.reply.Reply.{Reply}
@@ -8,11 +8,34 @@ use Rattle.messages.specs.declared.event.Event.{Event}
 use Rattle.messages.specs.declared.outcome.Outcome.{Outcome}
 use Rattle.book.specs.declared.state_edit.StateEdit.{StateEdit}
 use Rattle.book.specs.declared.state.State.{State}
+use Rattle.book.specs.rule.States.{ActorState, once_taken}
+use Rattle.book.specs.code.Copies.{state_of}
 
--- a seat: the state of an actor, and the number of commits made from the seat
+-- where a seat stands: a copy of its actor's state, and the event that was taken since and that the copy has still to take, if there is one
+pub record StandingFields : Type 0 where
+  pub copy : State
+  pub behind : Option Event
+
+-- the state in which the actor is
+abbrev pub standing_state : StandingFields → ActorState
+standing_state x = once_taken (state_of x.copy) x.behind
+
+-- a seat: where it stands, and the number of commits made from it
 pub record SeatFields : Type 0 where
-  pub state : State
+  pub standing : StandingFields
   pub commits : ℕ
+
+-- the state of the seat's actor
+abbrev pub seat_state : SeatFields → ActorState
+seat_state s = standing_state s.standing
+
+-- the copy has taken all that was committed
+abbrev pub IsLevel : SeatFields → Type 0
+IsLevel s = s.standing.behind ≡ None
+
+-- the same seat, however far behind its copy is
+abbrev pub IsSameSeat : SeatFields → SeatFields → Type 0
+IsSameSeat s t = (seat_state t ≡ seat_state s) × (t.commits ≡ s.commits)
 
 -- a prepared step: its actor, the seat's number of commits, its event, its change, and its outcome
 pub record PreparedFields : Type 0 where

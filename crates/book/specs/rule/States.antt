@@ -1,71 +1,67 @@
 -- The state of one actor, a node or the token server of a file.
-use Rattle.std.specs.Prelude.{◌≡◌, ℕ, Bool, ◌&&◌, Ok, Err}
+use Rattle.std.specs.Prelude.{◌≡◌, ℕ, Bool, ◌&&◌, Option, Some, None, Result, Ok, Err}
 use Rattle.messages.specs.declared.actor.Actor.{Actor}
 use Rattle.messages.specs.declared.actor.Actor.TheVariants.{Node as ANode, Server as AServer}
 use Rattle.messages.specs.declared.event.Event.{Event}
 use Rattle.messages.specs.declared.entry.Entry.{Entry}
 use Rattle.messages.specs.declared.outcome.Outcome.{Outcome}
 use Rattle.messages.specs.declared.refusal.StepError.{StepError}
-use Rattle.node_core.specs.rule.Parts.{node_state}
-use Rattle.node_core.specs.code.Plans.{planned as reached, Fits as NodeFits}
-use Rattle.token_server.specs.rule.Parts.{server_state}
-use Rattle.token_server.specs.code.Edits.{planned, Fits as ServerFits}
+use Rattle.node_core.specs.rule.State.{NodeState}
+use Rattle.token_server.specs.rule.State.{ServerState}
 use Rattle.cluster_core.specs.rule.World.{WorldState, has_node, has_file, was_declared, has_failed}
 use Rattle.cluster_core.specs.rule.Actors.{HasNode, HasServer, node_step, server_step, made_by_node, made_by_server}
-use Rattle.book.specs.declared.state_edit.StateEdit.{StateEdit}
-use Rattle.book.specs.declared.state_edit.StateEdit.TheVariants.{Node as OnNode, Server as OnServer}
-use Rattle.book.specs.declared.state.State.{State}
-use Rattle.book.specs.declared.state.State.TheVariants.{OfNode, OfServer}
 
-abbrev pub actor_of : State → Actor
-actor_of (OfNode n s) = ANode n
-actor_of (OfServer f s) = AServer f
+-- the state of the node with that number, or of the token server of that file
+pub data ActorState : Type 0 where
+  NodeIs : ℕ → NodeState → ActorState
+  ServerIs : ℕ → ServerState → ActorState
+
+abbrev pub actor_of : ActorState → Actor
+actor_of (NodeIs n s) = ANode n
+actor_of (ServerIs f s) = AServer f
 
 -- the incarnation of the node, or the epoch of the token server
-abbrev pub incarnation_of : State → ℕ
-incarnation_of (OfNode n s) = (node_state s.value).incarnation
-incarnation_of (OfServer f s) = (server_state s.value).epoch
+abbrev pub incarnation_of : ActorState → ℕ
+incarnation_of (NodeIs n s) = s.incarnation
+incarnation_of (ServerIs f s) = s.epoch
 
 -- the event leads from one state to another, with this outcome
-abbrev pub StepsTo : State → Event → State → Outcome → Type 0
-StepsTo (OfNode n s) event (OfNode m t) o = (m ≡ n) × (node_step n (node_state s.value) event ≡ Ok (node_state t.value, o))
-StepsTo (OfServer f s) event (OfServer g t) o = (g ≡ f) × (server_step f (server_state s.value) event ≡ Ok (server_state t.value, o))
+abbrev pub StepsTo : ActorState → Event → ActorState → Outcome → Type 0
+StepsTo (NodeIs n s) event (NodeIs m t) o = (m ≡ n) × (node_step n s event ≡ Ok (t, o))
+StepsTo (ServerIs f s) event (ServerIs g t) o = (g ≡ f) × (server_step f s event ≡ Ok (t, o))
 StepsTo _ event _ o = ⊥
 
--- the change was planned from the state
-abbrev pub Fits : State → StateEdit → Type 0
-Fits (OfNode n s) (OnNode e) = NodeFits s.value e
-Fits (OfServer f s) (OnServer e) = ServerFits s.value e
-Fits _ _ = ⊥
-
--- the change makes the second state of the first
-abbrev pub Becomes : State → StateEdit → State → Type 0
-Becomes (OfNode n s) (OnNode e) (OfNode m t) = (m ≡ n) × (node_state t.value ≡ reached s.value e)
-Becomes (OfServer f s) (OnServer e) (OfServer g t) = (g ≡ f) × (server_state t.value ≡ planned s.value e)
-Becomes _ _ _ = ⊥
-
--- the event leads from the state to the one that the change makes, with this outcome
-abbrev pub Plans : State → Event → StateEdit → Outcome → Type 0
-Plans (OfNode n s) event (OnNode e) o = node_step n (node_state s.value) event ≡ Ok (reached s.value e, o)
-Plans (OfServer f s) event (OnServer e) o = server_step f (server_state s.value) event ≡ Ok (planned s.value e, o)
-Plans _ event _ o = ⊥
+-- the event leads on from the state
+abbrev pub MayTake : ActorState → Event → Type 0
+MayTake s event = (t : ActorState) × (o : Outcome) × StepsTo s event t o
 
 -- the actor refuses the event with this error
-abbrev pub Rejects : State → Event → StepError → Type 0
-Rejects (OfNode n s) event e = node_step n (node_state s.value) event ≡ Err e
-Rejects (OfServer f s) event e = server_step f (server_state s.value) event ≡ Err e
+abbrev pub Rejects : ActorState → Event → StepError → Type 0
+Rejects (NodeIs n s) event e = node_step n s event ≡ Err e
+Rejects (ServerIs f s) event e = server_step f s event ≡ Err e
+
+-- the new state that a step makes, or the old one where it is refused
+abbrev pub left_by : {S : Type 0} → S → Result (S × Outcome) StepError → S
+left_by s (Ok done) = done.0
+left_by s (Err e) = s
+
+-- the state once the event is taken, if there is one
+abbrev pub once_taken : ActorState → Option Event → ActorState
+once_taken s None = s
+once_taken (NodeIs n s) (Some event) = NodeIs n (left_by s (node_step n s event))
+once_taken (ServerIs f s) (Some event) = ServerIs f (left_by s (server_step f s event))
 
 -- the actor is alive in the world, and in this state
-abbrev pub HasState : WorldState → State → Type 0
-HasState w (OfNode n s) = HasNode w n (node_state s.value)
-HasState w (OfServer f s) = HasServer w f (server_state s.value)
+abbrev pub HasState : WorldState → ActorState → Type 0
+HasState w (NodeIs n s) = HasNode w n s
+HasState w (ServerIs f s) = HasServer w f s
 
 -- the incarnation of the node, or the epoch of the token server, was declared failed in the world
-abbrev pub is_declared : WorldState → State → Bool
-is_declared w (OfNode n s) = has_node w n && was_declared w n (node_state s.value).incarnation
-is_declared w (OfServer f s) = has_file w f && has_failed w f (server_state s.value).epoch
+abbrev pub is_declared : WorldState → ActorState → Bool
+is_declared w (NodeIs n s) = has_node w n && was_declared w n s.incarnation
+is_declared w (ServerIs f s) = has_file w f && has_failed w f s.epoch
 
 -- the world and the entry that the event makes, where the actor makes this state and outcome of it
-abbrev pub made_by : WorldState → Event → State → Outcome → WorldState × Entry
-made_by w event (OfNode n s) o = made_by_node w event n (node_state s.value) o
-made_by w event (OfServer f s) o = made_by_server w event f (server_state s.value) o
+abbrev pub made_by : WorldState → Event → ActorState → Outcome → WorldState × Entry
+made_by w event (NodeIs n s) o = made_by_node w event n s o
+made_by w event (ServerIs f s) o = made_by_server w event f s o

@@ -2,6 +2,7 @@
 ghost use Rattle.std.specs.Prelude.{◌≡◌, ◌+◌, ◌-◌, ◌<◌, Ok, length, IfOk, OnOk};
 ghost use Rattle.cluster_core.specs.rule.World.{first_world};
 ghost use Rattle.book.specs.rule.States.{actor_of, HasState};
+ghost use Rattle.book.specs.code.Copies.{state_of};
 ghost use Rattle.book.specs.code.Seats.{AreFirst};
 ghost use Rattle.model.specs.rule.Limits.{IsNumber};
 ghost use Rattle.messages.specs.declared.actor.Actor.TheVariants.{Node as ANode, Server as AServer};
@@ -17,7 +18,7 @@ use trail::name::Name;
 // The state of a node of a cluster that begins.
 fn first_node_state(alloc: Global, shape: Shape, number: u8) -> Result<State, AllocError>
     requires { IsNumber shape.nodes number }
-    ensures { IfOk result (λ state. HasState (first_world shape) state × (actor_of state ≡ ANode number)) }
+    ensures { IfOk result (λ state. HasState (first_world shape) (state_of state) × (actor_of (state_of state) ≡ ANode number)) }
 {
     let node = Node::new(alloc, shape, number, 1)?;
     let node = Box::new(alloc, node)?;
@@ -27,7 +28,7 @@ fn first_node_state(alloc: Global, shape: Shape, number: u8) -> Result<State, Al
 // The state of a token server of a cluster that begins.
 fn first_server_state(alloc: Global, shape: Shape, file: u16) -> Result<State, AllocError>
     requires { IsNumber shape.files file }
-    ensures { IfOk result (λ state. HasState (first_world shape) state × (actor_of state ≡ AServer file)) }
+    ensures { IfOk result (λ state. HasState (first_world shape) (state_of state) × (actor_of (state_of state) ≡ AServer file)) }
 {
     let server = Server::new(alloc, shape, file)?;
     let server = Box::new(alloc, server)?;

@@ -1,4 +1,4 @@
-use Rattle.std.proofs.Common.{refl, sym, subst}
+use Rattle.std.proofs.Common.{None, refl, sym, subst}
 use Rattle.messages.specs.declared.event.Event.TheVariants.{Member}
 use Rattle.messages.specs.declared.event.MemberEvent.TheVariants.{Restart}
 use Rattle.messages.specs.declared.entry.Entry.{Entry}
@@ -21,7 +21,7 @@ returns-clause-ok g c =
     let n = c.args.node in
     let went = c.in_ok-begun.ensures.ok in
     let q : WorldState × Entry = (world_state d.world, went.0) in
-    let seat : SeatFields = record { state = OfNode n c.in_ok-begun.begun; commits = 0 } in
+    let seat : SeatFields = record { standing = record { copy = OfNode n c.in_ok-begun.begun; behind = None }; commits = 0 } in
     let stands = restarted_mine (world_state b.world) n q (node_state c.in_ok-begun.begun.value) (kept_taken (world_state b.world) (Member (Restart n)) q went.1).1 c.in_ok-begun.ensures.begun in
     let made : Restarted b n d seat = restarted b d n seat went refl refl stands in
     let same : Restarted b n d c.new.result = subst (λ (x : SeatFields). Restarted b n d x) (sym c.new.ensures) made in

@@ -1,4 +1,4 @@
-use Rattle.std.proofs.Common.{refl, sym, ap, ◌∙◌, subst}
+use Rattle.std.proofs.Common.{None, refl, sym, ap, ◌∙◌, subst}
 use Rattle.messages.specs.declared.event.Event.TheVariants.{Member}
 use Rattle.messages.specs.declared.event.MemberEvent.TheVariants.{StartServer}
 use Rattle.messages.specs.declared.entry.Entry.{Entry}
@@ -23,7 +23,7 @@ returns-clause-ok g c =
     let is = c.new-stamp.ensures in
     let went = c.in_ok-begun.ensures.ok in
     let q : WorldState × Entry = (world_state d.world, went.0) in
-    let seat : SeatFields = record { state = OfServer f c.in_ok-begun.begun; commits = 0 } in
+    let seat : SeatFields = record { standing = record { copy = OfServer f c.in_ok-begun.begun; behind = None }; commits = 0 } in
     let stands = started_mine (world_state b.world) f q (server_state c.in_ok-begun.begun.value) (kept_taken (world_state b.world) (Member (StartServer f)) q went.1).1 c.in_ok-begun.ensures.begun in
     let position = ap (λ (x : StampFields). x.position) is ∙ c.len-position.ensures.value in
     let gave = ap (λ (x : StampFields). x.outcome) is ∙ c.in_ok-begun.ensures.asks in
