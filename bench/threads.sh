@@ -1,7 +1,7 @@
 #!/bin/sh
 # Times `threads`: a client on each of 1, 2, 4 and 8 nodes locks and unlocks ten bytes of a file of its own, which its node's
 # token covers from the first lock on; alone, and where 100 other processes of its node have 100 regions each in that file.
-# Prints, each of the fastest of three runs, how many calls a second are answered while the cluster runs (`bench/pace`), without
+# Prints, each of the fastest of three runs, how many calls a second are answered while clients make calls (`bench/pace`), without
 # the time of a run that sets the regions alone; beside those of fcntl(F_SETLK) on a file of this machine by one process, and
 # beside what calls through mailboxes come to at most (bench/limit.c: a mailbox, a thread for each node, one mutex, an answer, and
 # no locks), both in the same minute; how many times longer than in that form a call takes; and the calls a second of the whole
@@ -49,6 +49,7 @@ echo "nodes  owners  calls/s  fcntl calls/s  limit calls/s  times the limit  cal
 for owners in 0 100; do
     for nodes in 1 2 4 8; do
         each=$((calls / nodes))
+        idle=$((2 * nodes + 2))
         script "$nodes" "$each" "$owners" >"$folder/run.lock"
         script "$nodes" 0 "$owners" >"$folder/begun.lock"
         all=$(grep -c '^call' "$folder/run.lock")
@@ -57,9 +58,9 @@ for owners in 0 100; do
         limit=0
         machine=0
         for _ in 1 2 3; do
-            paced=$("$here/pace" "$folder/listing" "$program" threads "$folder/run.lock") || exit 1
+            paced=$("$here/pace" "$folder/listing" "$idle" "$program" threads "$folder/run.lock") || exit 1
             tail -n 1 "$folder/listing" | grep -q '^audit yes$' || exit 1
-            begun=$("$here/pace" "$folder/listing" "$program" threads "$folder/begun.lock") || exit 1
+            begun=$("$here/pace" "$folder/listing" "$idle" "$program" threads "$folder/begun.lock") || exit 1
             best=$(greater "$best" "$(each_second $((nodes * each)) "${paced% *}" "${begun% *}")")
             whole=$(greater "$whole" "$(each_second "$all" "${paced#* }" 0)")
             form=$("$folder/limit" "$nodes" 100000) || exit 1

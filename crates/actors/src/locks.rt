@@ -1,24 +1,23 @@
 //! The way to wait for a lock that is most often free soon.
-use crossbeam_utils::Backoff;
+use std::hint;
 use std::sync::{Mutex, MutexGuard, Wait};
 
-// How often a thread looks whether it can have the value before it sleeps, and how many of the growing pauses of
-// `Backoff` it makes between two looks: 15, 176 and then 256 turns of a loop.
-const LOOKS: u32 = 10;
+// How often a thread looks whether it can have the value before it sleeps, and how many pauses of the processor it
+// makes between two looks: some two microseconds, about as long as a step holds the lock of the book.
+const LOOKS: u32 = 40;
 
-const PAUSES: u32 = 4;
+const PAUSES: u32 = 32;
 
-/// The value under its lock. The thread looks for the lock a few times, at growing distances, before it sleeps: a
-/// step of a script's run holds a lock for less time than it takes to sleep and be woken. (Each look takes the lock
-/// from the cache of the thread that holds it, so threads that look often slow all others.)
+/// The value under its lock. The thread looks for the lock a few times before it sleeps: a step of a script's run
+/// holds a lock for less time than it takes to sleep and be woken. (Each look takes the lock from the cache of the
+/// thread that holds it, so threads that look often slow all others; those that look seldom leave it free.)
 pub(crate) fn lock<'a, T, R: Wait>(rt: &R, value: &'a Mutex<T>) -> MutexGuard<'a, T> {
-    let backoff = Backoff::new();
     for _ in 0..LOOKS {
         if let Some(held) = value.try_lock() {
             return held;
         }
         for _ in 0..PAUSES {
-            backoff.spin();
+            hint::spin_loop();
         }
     }
     value.lock(rt)

@@ -5,7 +5,7 @@ ghost use Rattle.messages.specs.declared.event.MemberEvent.TheVariants.{Declare,
 ghost use Rattle.messages.specs.declared.refusal.Refused.{Refused};
 ghost use Rattle.messages.specs.declared.entry.Entry.{Entry};
 ghost use Rattle.cluster_core.specs.rule.World.{first_world, journal_limit};
-ghost use Rattle.cluster_core.specs.rule.Next.{next, kept_next};
+ghost use Rattle.cluster_core.specs.rule.Next.{kept_next};
 ghost use Rattle.cluster_core.specs.rule.Parts.{world_state};
 ghost use Rattle.cluster_core.specs.rule.Runs.{Leads};
 ghost use Rattle.cluster_core.specs.rule.Journals.{RunFields, journal_of};

@@ -1,5 +1,5 @@
 -- Calls of processes that are left behind a schedule.
-use Rattle.std.proofs.Common.{◌≡◌, ℕ, zero, suc, ◌+◌, ◌<◌, Bool, true, List, [], ◌∷◌, ◌++◌, length, take, get_or, sym, ap, subst, ◌∙◌, inl, inr, refl, Option, Some, None}
+use Rattle.std.proofs.Common.{◌≡◌, ◌≢◌, ℕ, zero, suc, ◌+◌, ◌<◌, Bool, true, List, [], ◌∷◌, ◌++◌, length, take, get_or, sym, ap, subst, ◌∙◌, inl, inr, refl, Option, Some, None}
 use Rattle.std.specs.Prelude.{◌⊎◌, All, slice_get}
 use Rattle.std.proofs.lemmas.Grind.{flat_map-append}
 use Rattle.std.proofs.lemmas.List.{append-nil, take_more}
@@ -14,6 +14,7 @@ use Rattle.lockscript.specs.rule.Scripts.{IsCommand, LineFields}
 use Rattle.player.specs.rule.Played.{PlayedState}
 use Rattle.explorer.specs.rule.Answers.{tries}
 use Rattle.explorer.specs.rule.Ends.{AreServed, IsOpenAfter, LeavesOpen, MakesCallsOf}
+use Rattle.explorer.specs.code.ByProcess.{ByProcess, list_in}
 use Rattle.explorer.specs.code.Indexes.{HoldsOfCaller, IsServedOther}
 use Rattle.explorer.specs.rule.Schedules.{calls_in, calls_of, may_stand, numbered, op_of, Follows}
 use Rattle.explorer.proofs.Orders.{Begins}
@@ -57,6 +58,14 @@ held-next Holds node pid (Call n p op) calls here before =
     (λ e f. inr (subst (λ (k : ℕ). Holds node k) f (subst (λ (k : ℕ). Holds k p) e here)))
     (none-same calls (Holds node pid) before)
 held-next Holds node pid _ calls here before = none-same calls (Holds node pid) before
+
+-- what holds of each process that has calls holds of the caller of the command, if it has some
+pub held-caller : (Holds : ℕ → ℕ → Type 0) (calls : ByProcess Op) (c : ScriptCommand) → HoldsOfCaller (λ node pid. list_in calls node pid ≢ []) c → ((node pid : ℕ) → NoneOr (list_in calls node pid) (Holds node pid)) → HoldsOfCaller Holds c
+held-caller Holds calls (Call n p op) some known = elim (known n p) [
+  | inl none ↦ absurd (some none)
+  | inr holds ↦ holds
+]
+held-caller Holds calls _ some known = tt
 
 -- a line may ask for each call of a process that lines ask for
 abbrev IsServedCall : ℕ → ℕ → Op → Type 0

@@ -1,5 +1,5 @@
 //! Which processes of a schedule can go on.
-ghost use Rattle.std.specs.Prelude.{◌≡◌, ◌⊎◌, ◌++◌, ◌&&◌, [], ℕ, true, false, slice_get, Bool, IfOk, IfSome, List, None, Some};
+ghost use Rattle.std.specs.Prelude.{◌≡◌, ◌≢◌, ◌⊎◌, ◌++◌, ◌&&◌, [], ℕ, true, false, slice_get, Bool, IfOk, IfSome, List, None, Some};
 ghost use Rattle.model.specs.declared.call.CallId.{CallId};
 ghost use Rattle.model.specs.declared.op.Op.{Op};
 ghost use Rattle.messages.specs.rule.Shapes.{ShapeFields};
@@ -16,14 +16,16 @@ ghost use Rattle.explorer.specs.rule.Ends.{AreServed, IsOpenAfter, MakesAll};
 ghost use Rattle.explorer.specs.code.Indexes.{CannotGoOn, HoldsOfCaller, KnowsCalls, KnowsLines};
 ghost use Rattle.explorer.specs.rule.Schedules.{calls_in, calls_of, Follows};
 
+use crate::by_process::count;
 use crate::call_replies::CallReplies;
-use crate::calls::Calls;
+use crate::calls::{Calls, note_call};
 use crate::follows::next_call;
 use crate::tries::{Tries, tries};
 use cluster_core::world::World;
 use lockscript::script_line::{ScriptCommand, ScriptLine};
 use player::player::Player;
 use std::alloc::{AllocError, Global};
+use std::collections::HashMap;
 
 /// The next call of a process that can go on behind these commands of a schedule of the lines, where the lines
 /// have these calls, the commands made those, and the player stands behind them: the process has a call left, and
@@ -49,29 +51,45 @@ pub(crate) fn ready_call(
     let run = player.run();
     let tries = tries(alloc, player.refused(), commands)?;
     let told = CallReplies::of(alloc, run.entries())?;
-    Ok(ready_in(lines, calls, made, &tries, &told, run.world()))
+    ready_in(alloc, lines, calls, made, &tries, &told, run.world())
 }
 
 // The same of lines with these calls, behind commands that made those calls, to which this became, by the
-// entries and the world to which they led.
+// entries and the world to which they led. Each process is looked at once, at its first line.
 fn ready_in(
+    alloc: Global,
     lines: &[ScriptLine],
     calls: &Calls,
     made: &Calls,
     tries: &Tries,
     told: &CallReplies<'_>,
     world: &World,
-) -> Option<ScriptCommand>
-    ensures follows { (failures : Bool) (taken : List ScriptCommand) → KnowsLines calls.now lines.now → KnowsCalls made.now taken → AreServed lines.now → IfSome result (Follows failures lines.now taken) }
-    ensures none { result ≡ None → (taken : List ScriptCommand) → KnowsLines calls.now lines.now → KnowsCalls made.now taken → (node pid : ℕ) → (calls_in node pid lines.now ≡ []) ⊎ CannotGoOn lines.now taken tries.now told.now (world_state world.now) node pid }
+) -> Result<Option<ScriptCommand>, AllocError>
+    ensures follows { (failures : Bool) (taken : List ScriptCommand) → KnowsLines calls.now lines.now → KnowsCalls made.now taken → AreServed lines.now → IfOk result (λ next. IfSome next (Follows failures lines.now taken)) }
+    ensures none { IfOk result (λ next. next ≡ None → (taken : List ScriptCommand) → KnowsLines calls.now lines.now → KnowsCalls made.now taken → (node pid : ℕ) → (calls_in node pid lines.now ≡ []) ⊎ CannotGoOn lines.now taken tries.now told.now (world_state world.now) node pid) }
 {
+    let mut looked = HashMap::new(alloc);
     for line in lines {
-        match ready_at(calls, made, tries, told, world, &line.command()) {
-            Some(call) => return Some(call),
-            None => {}
+        let command = line.command();
+        if is_caller_in(&looked, &command) {
+            continue;
+        }
+        match ready_at(calls, made, tries, told, world, &command) {
+            Some(call) => return Ok(Some(call)),
+            None => note_call(&mut looked, alloc, &command)?,
         }
     }
-    None
+    Ok(None)
+}
+
+// Whether the command is a call of a process that has one of these calls.
+fn is_caller_in(calls: &Calls, command: &ScriptCommand) -> bool
+    ensures { result ≡ true → HoldsOfCaller (λ node pid. list_in calls.now node pid ≢ []) command.now }
+{
+    match command {
+        ScriptCommand::Call { node, pid, .. } => count(calls, *node, *pid) > 0,
+        _ => false,
+    }
 }
 
 // The next call of the command's process, if that is a call and the process can go on.
