@@ -18,22 +18,20 @@ use std::marker::Model;
 #[derive(Drop)]
 pub struct Entry {
     event: Event,
-    // The incarnation in the call's name, where the event is a call; else the one that the event
-    // names, or 0.
-    incarnation: u16,
-    // The number in the call's name, where the event is a call; else 0.
-    number: u32,
+    // The incarnation in the call's name, where the event is a call, else the one that the event
+    // names, or 0; the number in the call's name, else 0; the reply, and the messages.
     outcome: KeptOutcome,
 }
 
 impl Model for Entry {
     ghost use Rattle.messages.specs.code.Entries.{EntryFields, kept, IsKept};
+    ghost use Rattle.messages.specs.code.KeptOutcomes.{name_in, reply_in, messages_in};
 
     ghost Value = { EntryFields };
 
-    ghost view = { λ e. kept e.event e.incarnation e.number e.outcome.reply e.outcome.sends };
+    ghost view = { λ e. kept e.event (name_in e.outcome).0 (name_in e.outcome).1 (reply_in e.outcome) (messages_in e.outcome) };
 
-    ghost invariant = { λ e. IsKept e.event e.incarnation e.number };
+    ghost invariant = { λ e. IsKept e.event (name_in e.outcome).0 (name_in e.outcome).1 };
 }
 
 // The incarnation and the number that an entry keeps: the ones of the call's name, or the
@@ -70,12 +68,7 @@ impl Entry {
         let (incarnation, number) = kept_name(incarnation, outcome.call);
         Entry {
             event,
-            incarnation,
-            number,
-            outcome: KeptOutcome {
-                reply,
-                sends: outcome.sends.fitted(),
-            },
+            outcome: KeptOutcome::new(incarnation, number, reply, outcome.sends.fitted()),
         }
     }
 
@@ -92,7 +85,7 @@ impl Entry {
     {
         match self.event {
             Event::AtNode(_, NodeInput::Call { .. }) => 0,
-            _ => self.incarnation,
+            _ => self.outcome.name().0,
         }
     }
 
@@ -102,11 +95,14 @@ impl Entry {
         ensures named { NamesItsCall self.now.event result }
     {
         match self.event {
-            Event::AtNode(node, NodeInput::Call { .. }) => Some(CallId {
-                node,
-                incarnation: self.incarnation,
-                number: self.number,
-            }),
+            Event::AtNode(node, NodeInput::Call { .. }) => {
+                let (incarnation, number) = self.outcome.name();
+                Some(CallId {
+                    node,
+                    incarnation,
+                    number,
+                })
+            }
             _ => None,
         }
     }
@@ -115,14 +111,14 @@ impl Entry {
     pub fn reply(&self) -> Option<(CallId, Reply)>
         ensures { result ≡ self.now.reply }
     {
-        self.outcome.reply.get()
+        self.outcome.reply()
     }
 
     /// The messages that the event sends, in the order in which the rules name them.
     pub fn sends(&self) -> &[SharedMessage]
         ensures { result.now ≡ self.now.sends }
     {
-        self.outcome.sends.as_slice()
+        self.outcome.sends()
     }
 
     /// Whether both entries are equal.

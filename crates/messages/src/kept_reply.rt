@@ -11,17 +11,16 @@ use std::marker::Model;
 
 // Most entries have no reply, or the reply `Done`: these need no memory of their own.
 #[derive(Drop)]
-enum CompactReply {
+pub(crate) enum CompactReply {
     Nothing,
     Done(CallId),
     Other(Box<(CallId, Reply)>),
 }
 
-/// The call that an entry answers with its reply, or none, in 16 bytes. Any reply but `Done` has
-/// memory of its own. Contracts see the call and the reply.
+/// The call that an entry answers with its reply, or none. Any reply but `Done` has memory of its own. Contracts see the call and the reply.
 #[derive(Drop)]
 pub struct KeptReply {
-    kept: CompactReply,
+    pub(crate) kept: CompactReply,
 }
 
 impl Model for KeptReply {

@@ -13,7 +13,7 @@ use std::marker::Model;
 
 // Most steps send no message, or one.
 #[derive(Drop)]
-enum CompactSends {
+pub(crate) enum CompactSends {
     Nothing,
     One(SharedMessage),
     Many(Box<Items<SharedMessage>>),
@@ -23,7 +23,7 @@ enum CompactSends {
 /// the step's outcome, its entry and the list of those sent. Contracts see their list.
 #[derive(Drop)]
 pub struct Sends {
-    kept: CompactSends,
+    pub(crate) kept: CompactSends,
 }
 
 impl Model for Sends {
