@@ -23,6 +23,8 @@ pub struct Entry {
     outcome: KeptOutcome,
 }
 
+const _: () = prove!(size_of::<Entry>() == 72);
+
 impl Model for Entry {
     ghost use Rattle.messages.specs.code.Entries.{EntryFields, kept, IsKept};
     ghost use Rattle.messages.specs.code.KeptOutcomes.{name_in, reply_in, messages_in};

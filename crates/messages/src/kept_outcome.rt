@@ -32,6 +32,8 @@ pub(crate) enum KeptOutcome {
     OtherMany(u16, u32, Answer, Batch),
 }
 
+const _: () = prove!(size_of::<KeptOutcome>() == 24);
+
 // The numbers and the messages, with no reply.
 fn unanswered(incarnation: u16, number: u32, sends: CompactSends) -> KeptOutcome
     ensures name { name_in result ≡ (incarnation, number) }
