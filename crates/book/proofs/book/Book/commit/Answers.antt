@@ -19,9 +19,9 @@ where_ok : {P : Type 0} (r : Result (Unit {0}) AllocError) → is_ok r ≡ true 
 where_ok (Ok done) is holds = holds
 where_ok (Err why) is holds = absurd (false≢true is)
 
-where_err : {P : Type 0} (r : Result (Unit {0}) AllocError) → is_ok r ≡ false → OnErr r P → P
-where_err (Ok done) is holds = absurd (false≢true (sym is))
-where_err (Err why) is holds = holds
+where_not_ok : {P : Type 0} (r : Result (Unit {0}) AllocError) → is_ok r ≡ false → OnErr r P → P
+where_not_ok (Ok done) is holds = absurd (false≢true (sym is))
+where_not_ok (Err why) is holds = holds
 
 -- the facts of the commit
 made : (g : Over) (c : goal.After-new g) → Commits c.self.inside.run c.args.seat.now c.args.prepared (seen_at (option_copied c.args.seen)) c.step_in.new.run c.stand_at.new.self c.new.result
@@ -53,7 +53,7 @@ returns-clause-outcome g c = subst (λ (x : RunFields). Commits x c.args.seat.no
 pub invariant_of-self : goal.invariant_of-self
 invariant_of-self g c =
     let is_err_there = sym c.map_err.ensures.variant ∙ ap is_ok c.in_err-map_err.was in
-    let unchanged = where_err c.step_in.result is_err_there c.step_in.ensures.unchanged in
+    let unchanged = where_not_ok c.step_in.result is_err_there c.step_in.ensures.unchanged in
     subst (λ (r : RunFields). AreReached (world_state r.world) c.self.inside.spots) (sym unchanged.0) c.self.invariant
 
 pub invariant_of-self-2 : goal.invariant_of-self-2
