@@ -23,6 +23,7 @@ mod left_calls;
 mod open_lines;
 mod opened_files;
 mod pending_messages;
+mod place_set;
 mod processes;
 mod ready;
 mod remaining_calls;

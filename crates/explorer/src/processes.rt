@@ -1,5 +1,6 @@
 //! The processes of a schedule, and which of them may go on.
 //! Each error is `AllocError`: a request for memory was refused.
+use crate::place_set::PlaceSet;
 use crate::remaining_calls::RemainingCalls;
 use lockscript::script_line::ScriptCommand;
 use messages::entry::Entry;
@@ -18,9 +19,9 @@ pub(crate) struct Processes {
     places: HashMap<(u8, u16), usize>,
     // The place of the process of each open call.
     callers: HashMap<CallId, usize>,
-    // The places of those that may make their next call, and of those with an open one, in ascending order.
-    ready: Vec<usize>,
-    open: Vec<usize>,
+    // The places of those that may make their next call, and of those with an open one.
+    ready: PlaceSet,
+    open: PlaceSet,
 }
 
 impl Processes {
@@ -31,8 +32,8 @@ impl Processes {
             parts: Vec::new(alloc),
             places: HashMap::new(alloc),
             callers: HashMap::new(alloc),
-            ready: Vec::new(alloc),
-            open: Vec::new(alloc),
+            ready: PlaceSet::new(alloc),
+            open: PlaceSet::new(alloc),
         }
     }
 
@@ -53,12 +54,12 @@ impl Processes {
 
     /// Whether one of them has an open call.
     pub(crate) fn is_any_open(&self) -> bool {
-        !self.open.is_empty()
+        self.open.len() > 0
     }
 
     /// The next call of the one that is ready at this index among those that are, which makes it.
     pub(crate) fn next_ready(&mut self, index: usize) -> Result<Option<ScriptCommand>, AllocError> {
-        let Some(place) = self.ready.get(index).copied() else {
+        let Some(place) = self.ready.nth(index) else {
             return Ok(None);
         };
         let Some(part) = self.parts.get_mut(place) else {
@@ -156,8 +157,9 @@ impl Processes {
             && let Some(ended) = part.end()
         {
             self.callers.remove(&ended);
+            return self.note(place);
         }
-        self.note(place)
+        Ok(())
     }
 
     // Takes note of what the process at the place may do.
@@ -166,8 +168,8 @@ impl Processes {
             return Ok(());
         };
         let (is_ready, is_open) = (part.is_ready(), part.is_open());
-        put(&mut self.ready, place, is_ready)?;
-        put(&mut self.open, place, is_open)
+        self.ready.put(place, is_ready)?;
+        self.open.put(place, is_open)
     }
 
     /// The lines by which open calls are tried again come last in the queue.
@@ -175,26 +177,11 @@ impl Processes {
         &self,
         queue: &mut VecDeque<ScriptCommand>,
     ) -> Result<(), AllocError> {
-        for place in &self.open {
-            if let Some(part) = self.parts.get(*place) {
+        for place in self.open.all(self.alloc)? {
+            if let Some(part) = self.parts.get(place) {
                 queue.push_back(part.retry())?;
             }
         }
         Ok(())
     }
-}
-
-// The place is one of these, which ascend, or it is none of them.
-fn put(places: &mut Vec<usize>, place: usize, is_in: bool) -> Result<(), AllocError> {
-    let at = places.partition_point(|known| *known < place);
-    let was_in = at < places.len() && places[at] == place;
-    if was_in == is_in {
-        return Ok(());
-    }
-    if was_in {
-        places.remove(at);
-    } else {
-        places.insert(at, place)?;
-    }
-    Ok(())
 }

@@ -1,6 +1,7 @@
 pub mod Rises
 pub mod CallIndexes
 pub mod Index
+pub mod KeptSlots
 pub mod Locating
 pub mod Placing
 pub mod Placements

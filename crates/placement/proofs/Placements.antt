@@ -7,8 +7,9 @@ use Rattle.cluster_core.specs.rule.Runs.{IsRun}
 use Rattle.cluster_core.specs.rule.Histories.{HasHistory, EachAtItsPlace}
 use Rattle.cluster_core.specs.code.Placement.{items_in, history_of}
 use Rattle.cluster_core.proofs.runs.Runs.{has_history}
-use Rattle.placement.specs.declared.slot.Slot.{Slot}
+use Rattle.placement.specs.declared.kept_slot.KeptSlot.{KeptSlot}
 use Rattle.placement.specs.code.Standing.{standing}
+use Rattle.placement.specs.code.KeptSlots.{slots_in}
 use Rattle.placement.specs.code.Rests.{ArePlaces}
 
 -- the items are the history of the run
@@ -23,6 +24,6 @@ is_placed shape es given h is run same made =
     subst P (sym (made ∙ ap history_of same)) (record { history = both.0; at_places = both.1 })
 
 -- the items in the slots of a run are its history
-pub in_places : (shape : ShapeFields) (es given : List Entry) (slots : List Slot) (stood : List (Option Item)) → IsShape shape → IsRun shape es → ArePlaces es slots → given ≡ es → stood ≡ standing given slots → IsPlaced shape es (items_in stood)
+pub in_places : (shape : ShapeFields) (es given : List Entry) (slots : List KeptSlot) (stood : List (Option Item)) → IsShape shape → IsRun shape es → ArePlaces es slots → given ≡ es → stood ≡ standing given (slots_in 0 slots) → IsPlaced shape es (items_in stood)
 in_places shape es given slots stood is run places same stands =
-    is_placed shape es es (items_in stood) is run refl (ap items_in (stands ∙ (ap (λ (xs : List Entry). standing xs slots) same ∙ places.placed)))
+    is_placed shape es es (items_in stood) is run refl (ap items_in (stands ∙ (ap (λ (xs : List Entry). standing xs (slots_in 0 slots)) same ∙ places.placed)))

@@ -1,5 +1,6 @@
 -- The slots of a run, as it goes on by one entry.
-use Rattle.std.proofs.Common.{◌≡◌, ℕ, ◌+◌, ◌<◌, ◌≤◌, refl, sym, ◌∙◌, ap, subst, arith, List, [], ◌∷◌, ◌++◌, length, length-append, take, get_or, slice_get, slice_set, Option, Some, None}
+use Rattle.std.proofs.Common.{◌≡◌, ℕ, ◌+◌, ◌<◌, ◌≤◌, refl, sym, ◌∙◌, ap, subst, arith, List, [], ◌∷◌, ◌++◌, length, length-append, take, get_or, slice_get, slice_set, All, Option, Some, None, is_some}
+use Rattle.std.specs.HashMap.{get}
 use Rattle.std.specs.List.{cons_option, filter_map}
 use Rattle.std.proofs.Math.Seq.{set-append_seam}
 use Rattle.std.proofs.lemmas.List.{take_more, take_all, length-take-le, length-set, length-map, map-append, map-set}
@@ -15,12 +16,16 @@ use Rattle.cluster_core.specs.declared.item.Item.{Item}
 use Rattle.cluster_core.specs.code.Placement.{Slots, find_call, item_of, filled, placed_by, slots_after, slots_from, slots_of, items_in, gone_at}
 use Rattle.cluster_core.proofs.history.Slots.{slots_of-push}
 use Rattle.placement.specs.declared.slot.Slot.{Slot}
-use Rattle.placement.specs.declared.slot.Slot.TheVariants.{Empty, Declared}
+use Rattle.placement.specs.declared.slot.Slot.TheVariants.{Empty}
+use Rattle.placement.specs.declared.kept_slot.KeptSlot.{KeptSlot}
+use Rattle.placement.specs.declared.revoke_id.RevokeId.{RevokeId}
 use Rattle.placement.specs.declared.call_index.CallIndex.{CallIndex}
 use Rattle.placement.specs.code.CallIndexes.{entry_of}
-use Rattle.placement.specs.code.Indexes.{Conflicts, Indexes, Locates, AreBefore, slot_of, call_at}
-use Rattle.placement.specs.code.Standing.{declared_by, answered_so, answered_by, stands, standing}
-use Rattle.placement.proofs.Locating.{located_before, located_none}
+use Rattle.placement.specs.code.KeptSlots.{slot_in, slots_in}
+use Rattle.placement.specs.code.Indexes.{Conflicts, Indexes, KnowsDenial, Locates, AreBefore, same_revoke, told_at, slot_of, call_at}
+use Rattle.placement.specs.code.Standing.{answered_so, answered_by, stands, standing}
+use Rattle.placement.proofs.KeptSlots.{length-slots_in, slots_in-push}
+use Rattle.placement.proofs.Locating.{denial_known, located_before, located_none}
 use Rattle.placement.proofs.Index.{indexes_start}
 
 own_slot : (slots : Slots) (n : ℕ) (item : ℕ → Option Item) → n ≡ length slots → slots ++ item (n + 1) ∷ [] ≡ slice_set (slots ++ None ∷ []) (length slots) (item (length slots + 1))
@@ -78,14 +83,12 @@ module _ (all es : List Entry) (slots wide : List Slot) (e : Entry) (r : CallId 
       answer_unplaced es (standing all slots) e r.0 r.1 own event (long ∙ sym (length-standing all slots)) replies (own_is ∙ sym (length-standing all slots)) event_is (standing all wide) found (ap (standing all) wider ∙ standing-push all slots Empty) is none
 
 -- an entry that answers no call
-pub answers_none : (all es : List Entry) (slots wide : List Slot) (e : Entry) (at k : ℕ) → length es ≡ length slots → slice_get all (length slots) ≡ Some e → e.reply ≡ None → at ≡ length slots + 1 → k ≡ length slots → wide ≡ slots ++ Declared at k ∷ [] → standing all wide ≡ slots_after es (standing all slots) e e.reply
-answers_none all es slots wide e at k long there none at_is k_is wider =
+pub answers_none : (all es : List Entry) (slots wide : List Slot) (s : Slot) (e : Entry) → length es ≡ length slots → e.reply ≡ None → stands all s ≡ gone_at (length slots + 1) e.incarnation e.event → wide ≡ slots ++ s ∷ [] → standing all wide ≡ slots_after es (standing all slots) e e.reply
+answers_none all es slots wide s e long none stood wider =
     ap (standing all) wider
-    ∙ (standing-push all slots (Declared at k)
-    ∙ (ap (λ (n : ℕ). standing all slots ++ declared_by at (slice_get all n) ∷ []) k_is
-    ∙ (ap (λ (x : Option Entry). standing all slots ++ declared_by at x ∷ []) there
-    ∙ (ap (λ (n : ℕ). standing all slots ++ gone_at n e.incarnation e.event ∷ []) (at_is ∙ ap (λ (n : ℕ). n + 1) (sym long))
-    ∙ ap (slots_after es (standing all slots) e) (sym none)))))
+    ∙ (standing-push all slots s
+    ∙ (ap (λ (o : Option Item). standing all slots ++ o ∷ []) (stood ∙ ap (λ (n : ℕ). gone_at (n + 1) e.incarnation e.event) (sym long))
+    ∙ ap (slots_after es (standing all slots) e) (sym none)))
 
 -- one element more
 length-push : {A : Type 0} (xs : List A) (x : A) → length (xs ++ x ∷ []) ≡ length xs + 1
@@ -111,25 +114,27 @@ length-slots_from past slots (e ∷ es) =
     omega arith
 
 -- the indexes and the slots so far, of a run with all these entries
-pub record Placing (all past : List Entry) (calls : CallIndex) (conflicts : Conflicts) (slots : List Slot) : Type 0 where
+pub record Placing (all past : List Entry) (calls : CallIndex) (conflicts : Conflicts) (slots : List KeptSlot) : Type 0 where
   pub indexed : Indexes all calls past
   pub located : Locates conflicts past
-  pub placed : standing all slots ≡ slots_of past
+  pub known : All (λ e. KnowsDenial conflicts e.event) all
+  pub placed : standing all (slots_in 0 slots) ≡ slots_of past
 
-pub length-placed : (all past : List Entry) (slots : List Slot) → standing all slots ≡ slots_of past → length slots ≡ length past
+pub length-placed : (all past : List Entry) (slots : List KeptSlot) → standing all (slots_in 0 slots) ≡ slots_of past → length slots ≡ length past
 length-placed all past slots placed =
     let whole = length-slots_from [] [] past in
-    let long : length slots ≡ length (slots_of past) = sym (length-standing all slots) ∙ ap length placed in
-    long ∙ omega arith
+    let each = length-slots_in 0 slots in
+    let long : length (slots_in 0 slots) ≡ length (slots_of past) = sym (length-standing all (slots_in 0 slots)) ∙ ap length placed in
+    omega arith
 
-length-placing : (all past : List Entry) (calls : CallIndex) (conflicts : Conflicts) (slots : List Slot) → Placing all past calls conflicts slots → length slots ≡ length past
+length-placing : (all past : List Entry) (calls : CallIndex) (conflicts : Conflicts) (slots : List KeptSlot) → Placing all past calls conflicts slots → length slots ≡ length past
 length-placing all past calls conflicts slots p = length-placed all past slots p.placed
 
-pub placing_empty : (all : List Entry) (calls : CallIndex) (conflicts : Conflicts) (slots : List Slot) → ((id : CallId) → entry_of calls id ≡ None) → conflicts.entries ≡ [] → slots ≡ [] → Placing all [] calls conflicts slots
-placing_empty all calls conflicts slots none untold empty = record { indexed = indexes_start all calls none; located = located_none conflicts untold; placed = ap (standing all) empty }
+pub placing_empty : (all : List Entry) (calls : CallIndex) (conflicts : Conflicts) (slots : List KeptSlot) → ((id : CallId) → entry_of calls id ≡ None) → ((r : RevokeId) → told_at (get same_revoke conflicts r) ≡ None) → All (λ e. KnowsDenial conflicts e.event) all → slots ≡ [] → Placing all [] calls conflicts slots
+placing_empty all calls conflicts slots none untold known empty = record { indexed = indexes_start all calls none; located = located_none conflicts untold; known = known; placed = ap (λ (ss : List KeptSlot). standing all (slots_in 0 ss)) empty }
 
 -- one entry more of the run
-module _ (es : List Entry) (i : ℕ) (e : Entry) (calls : CallIndex) (conflicts : Conflicts) (slots : List Slot) (lt : i < length es) (p : Placing es (take i es) calls conflicts slots) where
+module _ (es : List Entry) (i : ℕ) (e : Entry) (calls : CallIndex) (conflicts : Conflicts) (slots : List KeptSlot) (lt : i < length es) (p : Placing es (take i es) calls conflicts slots) where
   length-take : length (take i es) ≡ i
   length-take = length-take-le i es (omega arith)
 
@@ -139,8 +144,11 @@ module _ (es : List Entry) (i : ℕ) (e : Entry) (calls : CallIndex) (conflicts 
   pub all_before : AreBefore conflicts (length slots)
   all_before = subst (AreBefore conflicts) (sym (length-placing es (take i es) calls conflicts slots p)) (located_before conflicts (take i es) p.located)
 
-  pub placing_more : (next : CallIndex) (told : Conflicts) (more : List Slot) → e ≡ get_or es i e → ((all past : List Entry) → slice_get all i ≡ Some e → Indexes all calls past → Indexes all next (past ++ e ∷ [])) → ((all past : List Entry) → slice_get all (length slots) ≡ Some e → length past ≡ length slots → Indexes all next (past ++ e ∷ []) → Locates conflicts past → standing all more ≡ slots_after past (standing all slots) e e.reply) → ((past : List Entry) → length past ≡ i → Locates conflicts past → Locates told (past ++ e ∷ [])) → Placing es (take (i + 1) es) next told more
-  placing_more next told more is indexes answers locates =
+  pub known_here : e ≡ get_or es i e → KnowsDenial conflicts e.event
+  known_here is = subst (λ (d : Entry). KnowsDenial conflicts d.event) (sym is) (p.known i e lt)
+
+  pub placing_more : (next : CallIndex) (told : Conflicts) (more : List KeptSlot) → e ≡ get_or es i e → ((all past : List Entry) → slice_get all i ≡ Some e → Indexes all calls past → Indexes all next (past ++ e ∷ [])) → ((all past : List Entry) → slice_get all (length slots) ≡ Some e → length past ≡ length slots → Indexes all next (past ++ e ∷ []) → Locates conflicts past → standing all (slots_in 0 more) ≡ slots_after past (standing all (slots_in 0 slots)) e e.reply) → ((past : List Entry) → length past ≡ i → Locates conflicts past → Locates told (past ++ e ∷ [])) → ((r : RevokeId) → is_some (get same_revoke told r) ≡ is_some (get same_revoke conflicts r)) → Placing es (take (i + 1) es) next told more
+  placing_more next told more is indexes answers locates keeps =
       let past = take i es in
       let there : slice_get es i ≡ Some e = slice_get-get_or es i e lt ∙ ap (λ (x : Entry). Some x) (sym is) in
       let grown : take (i + 1) es ≡ past ++ e ∷ [] = take_more es i e lt ∙ ap (λ (x : Entry). past ++ x ∷ []) (sym is) in
@@ -150,11 +158,12 @@ module _ (es : List Entry) (i : ℕ) (e : Entry) (calls : CallIndex) (conflicts 
       subst P (sym grown) (record {
         indexed = indexed;
         located = locates past length-take p.located;
+        known = λ k d within. denial_known conflicts told keeps (get_or es k d).event (p.known k d within);
         placed = placed ∙ (ap (λ (s : Slots). slots_after past s e e.reply) p.placed ∙ sym (slots_of-push past e));
       })
 
 -- all entries of the run
-pub placing_whole : (es : List Entry) (i : ℕ) (calls : CallIndex) (conflicts : Conflicts) (slots : List Slot) → length es ≤ i → Placing es (take i es) calls conflicts slots → standing es slots ≡ slots_of es
+pub placing_whole : (es : List Entry) (i : ℕ) (calls : CallIndex) (conflicts : Conflicts) (slots : List KeptSlot) → length es ≤ i → Placing es (take i es) calls conflicts slots → standing es (slots_in 0 slots) ≡ slots_of es
 placing_whole es i calls conflicts slots all p = p.placed ∙ ap slots_of (take_all i es all)
 
 -- the items in the slots
@@ -162,13 +171,21 @@ items_in-standing : (all : List Entry) (slots : List Slot) → items_in (standin
 items_in-standing all [] = refl
 items_in-standing all (s ∷ ss) = ap (cons_option (stands all s)) (items_in-standing all ss)
 
-pub items_all : (all : List Entry) (slots : List Slot) (i : ℕ) (items : List Item) → length slots ≤ i → items ≡ filter_map (stands all) (take i slots) → items ≡ items_in (standing all slots)
-items_all all slots i items past so_far = so_far ∙ (ap (filter_map (stands all)) (take_all i slots past) ∙ sym (items_in-standing all slots))
+pub items_all : (all : List Entry) (kept : List KeptSlot) (i : ℕ) (items : List Item) → length kept ≤ i → items ≡ filter_map (stands all) (slots_in 0 (take i kept)) → items ≡ items_in (standing all (slots_in 0 kept))
+items_all all kept i items past so_far = so_far ∙ (ap (λ (ks : List KeptSlot). filter_map (stands all) (slots_in 0 ks)) (take_all i kept past) ∙ sym (items_in-standing all (slots_in 0 kept)))
 
 -- one slot more is read
-pub items_more : (all : List Entry) (slots : List Slot) (i : ℕ) (d : Slot) (items : List Item) (o : Option Item) → i < length slots → o ≡ stands all (get_or slots i d) → items ≡ filter_map (stands all) (take i slots) → items ++ cons_option o [] ≡ filter_map (stands all) (take (i + 1) slots)
-items_more all slots i d items o lt stood so_far =
+pub items_more : (all : List Entry) (kept : List KeptSlot) (i : ℕ) (d : KeptSlot) (items : List Item) (o : Option Item) → i < length kept → o ≡ stands all (slot_in i (get_or kept i d)) → items ≡ filter_map (stands all) (slots_in 0 (take i kept)) → items ++ cons_option o [] ≡ filter_map (stands all) (slots_in 0 (take (i + 1) kept))
+items_more all kept i d items o lt stood so_far =
+    let s = get_or kept i d in
+    let past = slots_in 0 (take i kept) in
+    let many = length-take-le i kept (omega arith) in
+    let place : 0 + length (take i kept) ≡ i = omega arith in
+    let grown : slots_in 0 (take (i + 1) kept) ≡ past ++ slot_in i s ∷ [] =
+    ap (slots_in 0) (take_more kept i d lt)
+    ∙ (slots_in-push 0 (take i kept) s
+    ∙ ap (λ (n : ℕ). past ++ slot_in n s ∷ []) place) in
     ap (λ (xs : List Item). xs ++ cons_option o []) so_far
-    ∙ (ap (λ (x : Option Item). filter_map (stands all) (take i slots) ++ cons_option x []) stood
-    ∙ (sym (filter_map-append (stands all) (take i slots) (get_or slots i d ∷ []))
-    ∙ ap (filter_map (stands all)) (sym (take_more slots i d lt))))
+    ∙ (ap (λ (x : Option Item). filter_map (stands all) past ++ cons_option x []) stood
+    ∙ (sym (filter_map-append (stands all) past (slot_in i s ∷ []))
+    ∙ ap (filter_map (stands all)) (sym grown)))

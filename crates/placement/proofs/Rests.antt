@@ -8,8 +8,11 @@ use Rattle.messages.specs.declared.entry.Entry.{Entry}
 use Rattle.cluster_core.specs.declared.item.Item.{Item}
 use Rattle.placement.specs.declared.slot.Slot.{Slot}
 use Rattle.placement.specs.declared.slot.Slot.TheVariants.{Empty, Declared, Answered}
+use Rattle.placement.specs.declared.kept_slot.KeptSlot.{KeptSlot}
 use Rattle.placement.specs.code.Standing.{made_by, declared_by, answered_by, stands, standing}
+use Rattle.placement.specs.code.KeptSlots.{slot_in, slots_in}
 use Rattle.placement.specs.code.Rests.{RestFields, StartsWith, without_first, called_at, stands_from, IsAhead, AreAhead}
+use Rattle.placement.proofs.KeptSlots.{length-slots_in}
 
 -- a slot more, and another in the place of one
 pub ahead_push : (k : ℕ) (slots : List Slot) (s : Slot) → AreAhead k slots → IsAhead (k + length slots) s → AreAhead k (slots ++ s ∷ [])
@@ -120,8 +123,8 @@ last_is {A} old new x y is at =
 reverse_last : {A : Type 0} (old new : List A) (x : A) → old ≡ new ++ x ∷ [] → reverse old ≡ x ∷ reverse new
 reverse_last old new x is = ap reverse is ∙ reverse-append new (x ∷ [])
 
-abbrev pub rest_of : List (Option (ℕ × Op)) → List Entry → List Slot → RestFields
-rest_of made es slots = record { entries = reverse es; standing = map (stands_from made (reverse es)) (reverse slots) }
+abbrev pub rest_of : List (Option (ℕ × Op)) → List Entry → List KeptSlot → RestFields
+rest_of made es kept = record { entries = reverse es; standing = map (stands_from made (reverse es)) (slots_in (length made) (reverse kept)) }
 
 -- the last element is the first of the reversed list
 reversed_first : {A : Type 0} (xs : List A) → slice_get (reverse xs) 0 ≡ slice_get xs (length xs - 1)
@@ -152,38 +155,45 @@ no_length [] is = refl
 no_length (x ∷ xs) is = absurd (omega arith)
 
 -- the first of the entries that are left, and what stands there
-pub starts : (made : List (Option (ℕ × Op))) (es : List Entry) (slots : List Slot) (o : Option Entry) → length slots ≡ length es → o ≡ slice_get es (length es - 1) → StartsWith (rest_of made es slots) o
-starts made es slots None each is =
+pub starts : (made : List (Option (ℕ × Op))) (es : List Entry) (kept : List KeptSlot) (o : Option Entry) → length kept ≡ length es → o ≡ slice_get es (length es - 1) → StartsWith (rest_of made es kept) o
+starts made es kept None each is =
     let none = none_begins (reverse es) (reversed_first es ∙ sym is) in
     let empty = ap length none in
     let long = length-reverse es in
-    let long_slots = length-reverse slots in
-    (none, ap (map (stands_from made (reverse es))) (no_length (reverse slots) (omega arith)))
-starts made es slots (Some e) each is =
+    let long_kept = length-reverse kept in
+    (none, ap (λ (ks : List KeptSlot). map (stands_from made (reverse es)) (slots_in (length made) ks)) (no_length (reverse kept) (omega arith)))
+starts made es kept (Some e) each is =
     let first = begins (reverse es) e (reversed_first es ∙ sym is) in
     let one = ap length first in
     let long = length-reverse es in
-    let long_slots = length-reverse slots in
-    let items = map (stands_from made (reverse es)) (reverse slots) in
-    let long_items = length-map (reverse slots) (stands_from made (reverse es)) in
+    let long_kept = length-reverse kept in
+    let slots = slots_in (length made) (reverse kept) in
+    let long_slots = length-slots_in (length made) (reverse kept) in
+    let items = map (stands_from made (reverse es)) slots in
+    let long_items = length-map slots (stands_from made (reverse es)) in
     (first, goes_on items None (omega arith))
 
-pub stands_at_first : (made : List (Option (ℕ × Op))) (es : List Entry) (slots : List Slot) (s : Slot) → Some s ≡ slice_get slots (length slots - 1) → stands_from made (reverse es) s ≡ get_or (map (stands_from made (reverse es)) (reverse slots)) 0 None
-stands_at_first made es slots s is =
-    sym (ap (λ (ss : List Slot). get_or (map (stands_from made (reverse es)) ss) 0 None) (begins (reverse slots) s (reversed_first slots ∙ sym is)))
+pub stands_at_first : (made : List (Option (ℕ × Op))) (es : List Entry) (kept : List KeptSlot) (s : KeptSlot) → Some s ≡ slice_get kept (length kept - 1) → stands_from made (reverse es) (slot_in (length made) s) ≡ get_or (map (stands_from made (reverse es)) (slots_in (length made) (reverse kept))) 0 None
+stands_at_first made es kept s is =
+    sym (ap (λ (ks : List KeptSlot). get_or (map (stands_from made (reverse es)) (slots_in (length made) ks)) 0 None) (begins (reverse kept) s (reversed_first kept ∙ sym is)))
 
 -- the first entry that is left goes
-pub goes : (made grown : List (Option (ℕ × Op))) (es fewer : List Entry) (slots others : List Slot) (e : Entry) (s : Slot) → es ≡ fewer ++ e ∷ [] → slots ≡ others ++ s ∷ [] → AreAhead (length made) (reverse slots) → grown ≡ made ++ made_by (Some e) ∷ [] → rest_of grown fewer others ≡ without_first (rest_of made es slots)
-goes made grown es fewer slots others e s es_is slots_is ahead grown_is =
+pub goes : (made grown : List (Option (ℕ × Op))) (es fewer : List Entry) (kept others : List KeptSlot) (e : Entry) (s : KeptSlot) → es ≡ fewer ++ e ∷ [] → kept ≡ others ++ s ∷ [] → AreAhead (length made) (slots_in (length made) (reverse kept)) → grown ≡ made ++ made_by (Some e) ∷ [] → rest_of grown fewer others ≡ without_first (rest_of made es kept)
+goes made grown es fewer kept others e s es_is kept_is ahead grown_is =
     let left = reverse_last es fewer e es_is in
-    let still = reverse_last slots others s slots_is in
+    let still = reverse_last kept others s kept_is in
+    let n = length made in
+    let more = made ++ made_by (Some e) ∷ [] in
+    let slots = slots_in (n + 1) (reverse others) in
     let entries : reverse fewer ≡ drop 1 (reverse es) = sym (ap (λ (xs : List Entry). drop 1 xs) left) in
-    let items : map (stands_from grown (reverse fewer)) (reverse others) ≡ drop 1 (map (stands_from made (reverse es)) (reverse slots)) =
-    ap (λ (m : List (Option (ℕ × Op))). map (stands_from m (reverse fewer)) (reverse others)) grown_is
-    ∙ (sym (standing_next e (reverse fewer) made (reverse others) (subst (AreAhead (length made)) still ahead).1)
-    ∙ (ap (λ (xs : List Entry). map (stands_from made xs) (reverse others)) (sym left)
-    ∙ sym (ap (λ (ss : List Slot). drop 1 (map (stands_from made (reverse es)) ss)) still))) in
-    ap (λ (xs : List Entry). rest xs (map (stands_from grown (reverse fewer)) (reverse others))) entries
+    let behind = (subst (λ (ks : List KeptSlot). AreAhead n (slots_in n ks)) still ahead).1 in
+    let items : map (stands_from grown (reverse fewer)) (slots_in (length grown) (reverse others)) ≡ drop 1 (map (stands_from made (reverse es)) (slots_in n (reverse kept))) =
+    ap (λ (m : List (Option (ℕ × Op))). map (stands_from m (reverse fewer)) (slots_in (length m) (reverse others))) grown_is
+    ∙ (ap (λ (k : ℕ). map (stands_from more (reverse fewer)) (slots_in k (reverse others))) (length-append made (made_by (Some e) ∷ []))
+    ∙ (sym (standing_next e (reverse fewer) made slots behind)
+    ∙ (ap (λ (xs : List Entry). map (stands_from made xs) slots) (sym left)
+    ∙ sym (ap (λ (ks : List KeptSlot). drop 1 (map (stands_from made (reverse es)) (slots_in n ks))) still)))) in
+    ap (λ (xs : List Entry). rest xs (map (stands_from grown (reverse fewer)) (slots_in (length grown) (reverse others)))) entries
     ∙ ap (λ (os : List (Option Item)). rest (drop 1 (reverse es)) os) items
   where
     rest : List Entry → List (Option Item) → RestFields

@@ -1,4 +1,5 @@
 pub mod Standing
+pub mod KeptSlots
 pub mod CallsMade
 pub mod Rests
 pub mod CallIndexes

@@ -6,6 +6,7 @@ mod answers;
 mod call_index;
 pub mod history;
 mod indexed_call;
+mod kept_slot;
 pub mod legal;
 mod made;
 pub mod placed;

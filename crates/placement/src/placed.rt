@@ -1,20 +1,24 @@
 //! The one history of a run.
-ghost use Rattle.std.specs.Prelude.{ℕ, ◌≡◌, ◌≤◌, ◌<◌, ◌+◌, ⊤, List, ◌++◌, ◌∷◌, [], length, slice_get, Some, IfOk, OnOk, MatchOption};
+ghost use Rattle.std.specs.Prelude.{ℕ, ◌≡◌, ◌≤◌, ◌<◌, ◌+◌, ⊤, List, ◌++◌, ◌∷◌, [], length, slice_get, All, Some, None, is_some, IfOk, OnOk, MatchOption};
 ghost use Rattle.model.specs.declared.call.CallId.{CallId};
 ghost use Rattle.model.specs.declared.reply.Reply.{Reply};
 ghost use Rattle.messages.specs.declared.entry.Entry.{Entry};
+ghost use Rattle.std.specs.HashMap.{get};
 ghost use Rattle.cluster_core.specs.rule.World.{journal_limit};
 ghost use Rattle.cluster_core.specs.rule.Safe.{LeadsToSafe};
 ghost use Rattle.cluster_core.specs.rule.Histories.{HasHistory, EachAtItsPlace};
 ghost use Rattle.cluster_core.specs.code.Placement.{find_call, gone_at, item_of, slots_after, slots_of, items_in, history_of};
-ghost use Rattle.placement.specs.code.Indexes.{Indexes, Locates, Notes, AreBefore, slot_of};
+ghost use Rattle.placement.specs.declared.revoke_id.RevokeId.{RevokeId};
+ghost use Rattle.placement.specs.code.Indexes.{Indexes, Locates, Notes, AreBefore, KnowsDenial, same_revoke, denied, told_at, slot_of};
 ghost use Rattle.placement.specs.code.Standing.{stands, standing};
+ghost use Rattle.placement.specs.code.KeptSlots.{slot_in, slots_in};
 ghost use Rattle.placement.specs.code.Rests.{IsAhead, AreAhead};
 
 use crate::call_index::CallIndex;
 use crate::history::History;
+use crate::kept_slot::KeptSlot;
 use crate::revoke_id::RevokeId;
-use crate::slot::{Slot, gone_at};
+use crate::slot::gone_at;
 use cluster_core::item::Item;
 use cluster_core::journal::Journal;
 use messages::entry::Entry;
@@ -24,8 +28,9 @@ use model::call::CallId;
 use std::alloc::{AllocError, Global};
 use std::collections::HashMap;
 
-// For each revoke, by its name: the index of the first entry that sends a conflict with it.
-type Conflicts = HashMap<RevokeId, usize>;
+// For each revoke that a denial names, by its name: one more than the index of the first entry that sends a conflict with
+// it, or 0 before one does.
+type Conflicts = HashMap<RevokeId, u32>;
 
 /// The one history of the journal's run: each answered call at its place, each declared failure at its declaration,
 /// and nothing else. A call that a server denied stands at the entry at which the holder of the lock first did the
@@ -56,14 +61,14 @@ fn items_of(alloc: Global, entries: &[Entry]) -> Result<Vec<Item>, AllocError>
     items_in(alloc, entries, slots.as_slice())
 }
 
-// The slots of the history, one for each entry, made in one pass over the entries.
-pub(crate) fn slots_of(alloc: Global, entries: &[Entry]) -> Result<Vec<Slot>, AllocError>
+// The slots of the history, one for each entry, made in two passes over the entries: the first finds the denials.
+pub(crate) fn slots_of(alloc: Global, entries: &[Entry]) -> Result<Vec<KeptSlot>, AllocError>
     requires { length entries.now ≤ journal_limit }
-    ensures placed { IfOk result (λ slots. standing entries.now slots.items ≡ slots_of entries.now) }
-    ensures ahead { IfOk result (λ slots. AreAhead 0 slots.items) }
+    ensures placed { IfOk result (λ slots. standing entries.now (slots_in 0 slots.items) ≡ slots_of entries.now) }
+    ensures ahead { IfOk result (λ slots. AreAhead 0 (slots_in 0 slots.items)) }
 {
     let mut calls = CallIndex::new(alloc);
-    let mut conflicts = HashMap::new(alloc);
+    let mut conflicts = denials(alloc, entries)?;
     let mut slots = Vec::with_capacity(alloc, entries.len())?;
     for (index, entry) in entries.iter().enumerate() {
         note_call(alloc, &mut calls, index, entry)?;
@@ -96,10 +101,49 @@ fn note_call(
     calls.note(alloc, id, index as u32)
 }
 
-// Adds each conflict that the entry sends to the index, if the index has none of that name. `index` entries came
-// before it.
+// The revokes that denials among the entries name, each without a conflict.
+fn denials(alloc: Global, entries: &[Entry]) -> Result<Conflicts, AllocError>
+    ensures untold { IfOk result (λ conflicts. (r : RevokeId) → told_at (get same_revoke conflicts r) ≡ None) }
+    ensures known { IfOk result (λ conflicts. All (λ e. KnowsDenial conflicts e.event) entries.now) }
+{
+    let mut conflicts = HashMap::new(alloc);
+    for entry in entries {
+        if let Some(revoke) = denied(entry.event()) {
+            conflicts.insert(revoke, 0)?;
+        }
+    }
+    Ok(conflicts)
+}
+
+// The revoke that the event names, where it delivers a denial.
+fn denied(event: &Event) -> Option<RevokeId>
+    ensures { result ≡ denied event.now }
+{
+    let Event::Deliver(message) = event else {
+        return None;
+    };
+    let Message::Deny {
+        file,
+        holder,
+        number,
+        ..
+    } = *message.get()
+    else {
+        return None;
+    };
+    Some(RevokeId {
+        file,
+        holder,
+        number,
+    })
+}
+
+// Notes each conflict that the entry sends, where the index knows its revoke and has no conflict with that. `index`
+// entries came before it.
 fn note_conflicts(conflicts: &mut Conflicts, index: usize, entry: &Entry) -> Result<(), AllocError>
-    ensures { OnOk result ((es : List Entry) → length es ≡ index → Locates conflicts.old es → Locates conflicts.new (es ++ entry.now ∷ [])) }
+    requires room { index < journal_limit }
+    ensures located { OnOk result ((es : List Entry) → length es ≡ index → Locates conflicts.old es → Locates conflicts.new (es ++ entry.now ∷ [])) }
+    ensures known { OnOk result ((r : RevokeId) → is_some (get same_revoke conflicts.new r) ≡ is_some (get same_revoke conflicts.old r)) }
 {
     for message in entry.sends() {
         note_conflict(conflicts, index, message.get())?;
@@ -107,13 +151,14 @@ fn note_conflicts(conflicts: &mut Conflicts, index: usize, entry: &Entry) -> Res
     Ok(())
 }
 
-// Adds the message to the index, if it is a conflict and the index has none of that name. The entry with that index
-// sends it.
+// Notes the message, if it is a conflict and the index knows its revoke and has no conflict with that. The entry with
+// that index sends it.
 fn note_conflict(
     conflicts: &mut Conflicts,
     index: usize,
     message: &Message,
 ) -> Result<(), AllocError>
+    requires room { index < journal_limit }
     ensures { OnOk result (Notes conflicts.old index message.now conflicts.new) }
 {
     let Message::Conflict {
@@ -127,11 +172,11 @@ fn note_conflict(
     };
     let told = RevokeId {
         file,
-        number,
         holder,
+        number,
     };
-    if !conflicts.contains_key(&told) {
-        conflicts.insert(told, index)?;
+    if conflicts.get(&told).copied() == Some(0) {
+        conflicts.insert(told, index as u32 + 1)?;
     }
     Ok(())
 }
@@ -139,93 +184,79 @@ fn note_conflict(
 // Appends the slot of an entry that comes after those of `conflicts`. If the entry answers a call of `calls`, the
 // call goes to its place.
 fn answer(
-    slots: &mut Vec<Slot>,
+    slots: &mut Vec<KeptSlot>,
     calls: &CallIndex,
     conflicts: &Conflicts,
     entry: &Entry,
 ) -> Result<(), AllocError>
     requires room { length slots.now.items < journal_limit }
     requires before { AreBefore conflicts.now (length slots.now.items) }
-    ensures ahead { OnOk result (AreAhead 0 slots.old.items → AreAhead 0 slots.new.items) }
-    ensures standing { OnOk result ((all es : List Entry) → slice_get all (length slots.old.items) ≡ Some entry.now → length es ≡ length slots.old.items → Indexes all calls.now (es ++ entry.now ∷ []) → Locates conflicts.now es → standing all slots.new.items ≡ slots_after es (standing all slots.old.items) entry.now entry.now.reply) }
+    requires known { KnowsDenial conflicts.now entry.now.event }
+    ensures ahead { OnOk result (AreAhead 0 (slots_in 0 slots.old.items) → AreAhead 0 (slots_in 0 slots.new.items)) }
+    ensures standing { OnOk result ((all es : List Entry) → slice_get all (length slots.old.items) ≡ Some entry.now → length es ≡ length slots.old.items → Indexes all calls.now (es ++ entry.now ∷ []) → Locates conflicts.now es → standing all (slots_in 0 slots.new.items) ≡ slots_after es (standing all (slots_in 0 slots.old.items)) entry.now entry.now.reply) }
 {
     let own = slots.len();
     let Some(answered) = entry.reply() else {
         slots.push(slot_of_failure(entry, own as u32))?;
         return Ok(());
     };
-    slots.push(Slot::Empty)?;
+    slots.push(KeptSlot::empty())?;
     if let Some(index) = slot_of(conflicts, own, entry.event()) {
-        slots[index] = slot_at(calls, index as u32 + 1, answered.0, own as u32);
+        slots[index] = slot_at(calls, answered.0, own as u32);
     }
     Ok(())
 }
 
 // The slot of an entry with that index that answers no call: it may declare the failure of a node.
-fn slot_of_failure(entry: &Entry, index: u32) -> Slot
+fn slot_of_failure(entry: &Entry, index: u32) -> KeptSlot
     requires { index < journal_limit }
-    ensures ahead { (k : ℕ) → k ≤ index → IsAhead k result }
-    ensures stands { (all : List Entry) → slice_get all index ≡ Some entry.now → stands all result ≡ gone_at (index + 1) entry.now.incarnation entry.now.event }
+    ensures ahead { (k : ℕ) → k ≤ index → IsAhead k (slot_in index result) }
+    ensures stands { (all : List Entry) → slice_get all index ≡ Some entry.now → stands all (slot_in index result) ≡ gone_at (index + 1) entry.now.incarnation entry.now.event }
 {
-    let position = index + 1;
-    if gone_at(position, entry).is_none() {
-        return Slot::Empty;
+    if gone_at(index + 1, entry).is_none() {
+        return KeptSlot::empty();
     }
-    Slot::Declared {
-        position,
-        entry: index,
-    }
+    KeptSlot::declared()
 }
 
 // The slot for the call that an entry with this event answers: a denied call stands at the first entry that sent the
 // conflict, any other at its reply.
 fn slot_of(conflicts: &Conflicts, own: usize, event: &Event) -> Option<usize>
-    requires { AreBefore conflicts.now own }
+    requires before { AreBefore conflicts.now own }
+    requires known { KnowsDenial conflicts.now event.now }
     ensures within { MatchOption result ⊤ (λ index. index ≤ own) }
     ensures slot { (es : List Entry) → Locates conflicts.now es → result ≡ slot_of es own event.now }
 {
-    let Event::Deliver(message) = event else {
+    let Some(revoke) = denied(event) else {
         return Some(own);
     };
-    let Message::Deny {
-        file,
-        holder,
-        number,
-        ..
-    } = message.get()
-    else {
-        return Some(own);
-    };
-    let revoke = RevokeId {
-        file: *file,
-        number: *number,
-        holder: *holder,
-    };
-    conflicts.get(&revoke).copied()
+    let place = *conflicts.get(&revoke)?;
+    if place == 0 {
+        return None;
+    }
+    Some(place as usize - 1)
 }
 
-// The slot at that position of a call of the index, which the entry with the index `reply` answers.
-fn slot_at(calls: &CallIndex, position: u32, id: CallId, reply: u32) -> Slot
-    ensures ahead { (k : ℕ) → k ≤ reply → IsAhead k result }
-    ensures stands { (all es : List Entry) → Indexes all calls.now es → (e : Entry) (r : CallId × Reply) → slice_get all reply ≡ Some e → e.reply ≡ Some r → r.0 ≡ id → stands all result ≡ item_of position r.0 r.1 (find_call es r.0) }
+// The slot, wherever it is, of a call of the index, which the entry with the index `reply` answers.
+fn slot_at(calls: &CallIndex, id: CallId, reply: u32) -> KeptSlot
+    requires { reply < journal_limit }
+    ensures ahead { (at k : ℕ) → k ≤ reply → IsAhead k (slot_in at result) }
+    ensures stands { (at : ℕ) (all es : List Entry) → Indexes all calls.now es → (e : Entry) (r : CallId × Reply) → slice_get all reply ≡ Some e → e.reply ≡ Some r → r.0 ≡ id → stands all (slot_in at result) ≡ item_of (at + 1) r.0 r.1 (find_call es r.0) }
 {
     match calls.get(id) {
-        Some(call) => Slot::Answered {
-            position,
-            call,
-            reply,
-        },
-        None => Slot::Empty,
+        Some(call) => KeptSlot::answered(call, reply),
+        None => KeptSlot::empty(),
     }
 }
 
 // The items in the slots, in order.
-fn items_in(alloc: Global, entries: &[Entry], slots: &[Slot]) -> Result<Vec<Item>, AllocError>
-    ensures { IfOk result (λ items. items.items ≡ items_in (standing entries.now slots.now)) }
+fn items_in(alloc: Global, entries: &[Entry], slots: &[KeptSlot]) -> Result<Vec<Item>, AllocError>
+    requires { length slots.now ≤ journal_limit }
+    ensures { IfOk result (λ items. items.items ≡ items_in (standing entries.now (slots_in 0 slots.now))) }
 {
     let mut items = Vec::new(alloc);
-    for slot in slots {
-        if let Some(item) = slot.item(entries) {
+    for (index, kept) in slots.iter().enumerate() {
+        if let Some(item) = kept.slot(index).item(entries) {
             items.push(item)?;
         }
     }

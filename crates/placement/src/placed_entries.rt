@@ -2,8 +2,10 @@
 ghost use Rattle.std.specs.Prelude.{◌≡◌, ◌<◌, ◌≤◌, ◌-◌, reverse as reversed, length, slice_get, option_copied, slice_index_or, None, OnOk, OnErr};
 ghost use Rattle.cluster_core.specs.rule.World.{journal_limit};
 ghost use Rattle.placement.specs.code.Standing.{made_by, standing};
+ghost use Rattle.placement.specs.code.KeptSlots.{slots_in};
 ghost use Rattle.placement.specs.code.Rests.{StartsWith, without_first, IsAhead, AreAhead, called_at, stands_from};
 
+use crate::kept_slot::KeptSlot;
 use crate::made::Made;
 use crate::slot::{Slot, answered_at, gone_at, made_by};
 use cluster_core::item::Item;
@@ -23,28 +25,29 @@ pub struct PlacedEntries {
     made: Made,
     // The entries that are left and their slots, the last of them first.
     entries: Vec<Entry>,
-    slots: Vec<Slot>,
+    slots: Vec<KeptSlot>,
 }
 
 impl Model for PlacedEntries {
     ghost use Rattle.std.specs.Prelude.{length, map, reverse};
     ghost use Rattle.placement.specs.code.Rests.{RestFields, AreLeft, stands_from};
+    ghost use Rattle.placement.specs.code.KeptSlots.{slots_in};
 
     ghost Value = { RestFields };
 
-    ghost view = { λ p. record { entries = reverse p.entries.items; standing = map (stands_from p.made (reverse p.entries.items)) (reverse p.slots.items) } };
+    ghost view = { λ p. record { entries = reverse p.entries.items; standing = map (stands_from p.made (reverse p.entries.items)) (slots_in (length p.made) (reverse p.slots.items)) } };
 
     ghost invariant = { λ p. AreLeft (length p.made) p.entries.items p.slots.items };
 }
 
 impl PlacedEntries {
     // All entries of a run, with their slots.
-    pub(crate) fn new(alloc: Global, entries: Vec<Entry>, slots: Vec<Slot>) -> PlacedEntries
-        requires ahead { AreAhead 0 slots.items }
+    pub(crate) fn new(alloc: Global, entries: Vec<Entry>, slots: Vec<KeptSlot>) -> PlacedEntries
+        requires ahead { AreAhead 0 (slots_in 0 slots.items) }
         requires each { length slots.items ≡ length entries.items }
         requires few { length entries.items ≤ journal_limit }
         ensures entries { result.entries ≡ entries.items }
-        ensures standing { result.standing ≡ standing entries.items slots.items }
+        ensures standing { result.standing ≡ standing entries.items (slots_in 0 slots.items) }
     {
         let (mut entries, mut slots) = (entries, slots);
         entries.reverse();
@@ -67,7 +70,7 @@ impl PlacedEntries {
     pub fn item(&self) -> Option<Item>
         ensures { result ≡ slice_index_or self.now.standing 0 None }
     {
-        let slot = *self.slots.last()?;
+        let slot = self.slots.last()?.slot(self.made.len());
         if let Slot::Empty = slot {
             return None;
         }
@@ -94,7 +97,7 @@ impl PlacedEntries {
 }
 
 // Gives back the memory of the entries that went and of their slots, if it is enough.
-fn give_back(entries: &mut Vec<Entry>, slots: &mut Vec<Slot>)
+fn give_back(entries: &mut Vec<Entry>, slots: &mut Vec<KeptSlot>)
     ensures entries { entries.new.items ≡ entries.old.items }
     ensures slots { slots.new.items ≡ slots.old.items }
 {

@@ -3,19 +3,19 @@ ghost use Rattle.std.specs.Prelude.{◌≡◌, IfOk};
 ghost use Rattle.cluster_core.specs.rule.Histories.{HasHistory, EachAtItsPlace};
 ghost use Rattle.cluster_core.specs.code.Placement.{items_in, slots_of};
 
+use crate::kept_slot::KeptSlot;
 use crate::placed::slots_of;
 use crate::placed_entries::PlacedEntries;
-use crate::slot::Slot;
 use cluster_core::journal::Journal;
 use std::alloc::{AllocError, Global};
 use std::marker::Model;
 
-/// The journal of a run, with the place of each of its calls in the one history. A slot of 16 bytes for each entry
+/// The journal of a run, with the place of each of its calls in the one history. A slot of 8 bytes for each entry
 /// says what stands there; the item is made when it is asked for.
 #[derive(Drop)]
 pub struct PlacedRun {
     journal: Journal,
-    slots: Vec<Slot>,
+    slots: Vec<KeptSlot>,
 }
 
 impl Model for PlacedRun {

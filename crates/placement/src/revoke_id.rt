@@ -8,6 +8,8 @@ use model::host::Host;
 #[derive(Clone, Copy, Debug, PartialEq, Eq, Hash)]
 pub(crate) struct RevokeId {
     pub(crate) file: FileNumber,
-    pub(crate) number: CommandNumber,
     pub(crate) holder: Host,
+    pub(crate) number: CommandNumber,
 }
+
+const _: () = prove!(size_of::<RevokeId>() == 16);

@@ -1,9 +1,8 @@
 -- The indexes of the calls and of the conflicts of a run.
-use Rattle.std.specs.Prelude.{◌≡◌, ◌<◌, ℕ, Bool, ◌==◌, ◌&&◌, if◌then◌else◌, List, position, slice_get, Option, Some, None, is_some}
+use Rattle.std.specs.Prelude.{◌≡◌, ◌<◌, ℕ, zero, suc, Bool, true, ◌==◌, ◌&&◌, if◌then◌else◌, List, position, slice_get, Option, Some, None, IfSome, is_some}
 use Rattle.std.specs.declared.hash.FoldHasher.{FoldHasher}
 use Rattle.std.specs.declared.hash.BuildHasherDefault.{BuildHasherDefault}
 use Rattle.std.specs.HashMap.{HashMap, get}
-use Rattle.std.specs.Option.{option_or}
 use Rattle.model.specs.declared.call.CallId.{CallId}
 use Rattle.model.specs.declared.op.Op.{Op}
 use Rattle.messages.specs.declared.message.Message.{Message}
@@ -30,23 +29,44 @@ pub record Indexes (all : List Entry) (calls : CallIndex) (es : List Entry) : Ty
   pub known : (id : CallId) → is_some (entry_of calls id) ≡ is_some (find_call es id)
 
 abbrev pub same_revoke : RevokeId → RevokeId → Bool
-same_revoke a b = (a.file == b.file) && ((a.number == b.number) && same_host a.holder b.holder)
+same_revoke a b = (a.file == b.file) && (same_host a.holder b.holder && (a.number == b.number))
 
--- for each revoke, by its name: the index of an entry
+-- for each revoke, by its name: one more than the index of an entry, or 0
 abbrev pub Conflicts : Type 0
 Conflicts = HashMap RevokeId ℕ (BuildHasherDefault FoldHasher)
 
--- the index has each revoke that the entries answer by a conflict, with the first entry that does
+-- the entry that the index has for a revoke, if it has one
+abbrev pub told_at : Option ℕ → Option ℕ
+told_at None = None
+told_at (Some zero) = None
+told_at (Some (suc k)) = Some k
+
+-- the revoke that the event names, where it delivers a denial
+abbrev pub denied : Event → Option RevokeId
+denied (Deliver (Deny file call holder number lock)) = Some (record { file = file; holder = holder; number = number })
+denied _ = None
+
+-- the index knows the revoke that the event names, if it delivers a denial
+abbrev pub KnowsDenial : Conflicts → Event → Type 0
+KnowsDenial conflicts event = IfSome (denied event) (λ r. is_some (get same_revoke conflicts r) ≡ true)
+
+-- of each revoke that it knows, the index has the first of the entries that answers it by a conflict, if one does
 abbrev pub Locates : Conflicts → List Entry → Type 0
-Locates conflicts es = (r : RevokeId) → get same_revoke conflicts r ≡ position (names_conflict r.file r.holder r.number) es
+Locates conflicts es = (r : RevokeId) → is_some (get same_revoke conflicts r) ≡ true → told_at (get same_revoke conflicts r) ≡ position (names_conflict r.file r.holder r.number) es
 
--- the new index has all that the old one had, and the revoke that the message answers by a conflict, unless the old one had it
+-- what an index has for a revoke, after the entry with that index sent a conflict with it, or did not
+abbrev pub noted_at : Option ℕ → ℕ → Bool → Option ℕ
+noted_at None index sent = None
+noted_at (Some zero) index sent = Some (if sent then suc index else zero)
+noted_at (Some (suc k)) index sent = Some (suc k)
+
+-- the new index has all that the old one had, and the conflict that the message is, if its revoke is known and had none
 abbrev pub Notes : Conflicts → ℕ → Message → Conflicts → Type 0
-Notes old index m new = (r : RevokeId) → get same_revoke new r ≡ option_or (get same_revoke old r) (if is_conflict r.file r.holder r.number m then Some index else None)
+Notes old index m new = (r : RevokeId) → get same_revoke new r ≡ noted_at (get same_revoke old r) index (is_conflict r.file r.holder r.number m)
 
--- each entry that the index names is one of the first n
+-- each entry that the index has is one of the first n
 abbrev pub AreBefore : Conflicts → ℕ → Type 0
-AreBefore conflicts n = (r : RevokeId) (index : ℕ) → get same_revoke conflicts r ≡ Some index → index < n
+AreBefore conflicts n = (r : RevokeId) (index : ℕ) → told_at (get same_revoke conflicts r) ≡ Some index → index < n
 
 -- A denied call stands at the first entry that sent the conflict, any other at its reply.
 abbrev pub slot_of : List Entry → ℕ → Event → Option ℕ

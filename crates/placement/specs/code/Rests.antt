@@ -7,7 +7,9 @@ use Rattle.cluster_core.specs.declared.item.Item.{Item}
 use Rattle.cluster_core.specs.code.Placement.{slots_of}
 use Rattle.placement.specs.declared.slot.Slot.{Slot}
 use Rattle.placement.specs.declared.slot.Slot.TheVariants.{Empty, Declared, Answered}
+use Rattle.placement.specs.declared.kept_slot.KeptSlot.{KeptSlot}
 use Rattle.placement.specs.code.Standing.{made_by, declared_by, answered_by, standing}
+use Rattle.placement.specs.code.KeptSlots.{slots_in}
 
 -- the entries that are left, and for each the item that stands there in the history, or none
 pub record RestFields : Type 0 where
@@ -47,12 +49,12 @@ AreAhead k [] = ⊤
 AreAhead k (slot ∷ slots) = IsAhead k slot × AreAhead (k + 1) slots
 
 -- the entries and slots that are left, the last of them first, after n entries went
-pub record AreLeft (n : ℕ) (es : List Entry) (slots : List Slot) : Type 0 where
-  pub ahead : AreAhead n (reverse slots)
+pub record AreLeft (n : ℕ) (es : List Entry) (slots : List KeptSlot) : Type 0 where
+  pub ahead : AreAhead n (slots_in n (reverse slots))
   pub each : length slots ≡ length es
   pub few : n + length es ≤ journal_limit
 
 -- the slots are those of these entries
-pub record ArePlaces (es : List Entry) (slots : List Slot) : Type 0 where
-  pub placed : standing es slots ≡ slots_of es
-  pub ahead : AreAhead 0 slots
+pub record ArePlaces (es : List Entry) (slots : List KeptSlot) : Type 0 where
+  pub placed : standing es (slots_in 0 slots) ≡ slots_of es
+  pub ahead : AreAhead 0 (slots_in 0 slots)

@@ -1,8 +1,9 @@
-use Rattle.std.proofs.Common.{sym, ap, ◌∙◌, Some}
+use Rattle.std.proofs.Common.{◌+◌, sym, ap, ◌∙◌, Some}
+use Rattle.placement.specs.code.Standing.{stands}
 use Rattle.placement.specs.code.CallIndexes.{entry_of}
 use Rattle.placement.proofs.Placing.{slot_answers}
 use Rattle.placement.proofs.placed.slot_at.Goals as goal
 
 pub returns-in-Some-clause-stands : goal.returns-in-Some-clause-stands
-returns-in-Some-clause-stands c = λ all es indexed e r there replies same.
-    slot_answers all es c.args.calls.now c.args.position c.args.reply e r (Some c.in-Some.call) indexed (sym c.in-Some.is ∙ c.get.ensures ∙ ap (entry_of c.args.calls.now) (sym same)) there replies
+returns-in-Some-clause-stands c = λ at all es indexed e r there replies same.
+    ap (stands all) (c.answered.ensures at) ∙ slot_answers all es c.args.calls.now (at + 1) c.args.reply e r (Some c.in-Some.call) indexed (sym c.in-Some.is ∙ c.get.ensures ∙ ap (entry_of c.args.calls.now) (sym same)) there replies

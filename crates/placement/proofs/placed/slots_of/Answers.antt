@@ -1,12 +1,14 @@
-use Rattle.std.proofs.Common.{arith, subst, sym}
+use Rattle.std.proofs.Common.{arith, subst, sym, List}
+use Rattle.placement.specs.declared.kept_slot.KeptSlot.{KeptSlot}
+use Rattle.placement.specs.code.KeptSlots.{slots_in}
 use Rattle.placement.specs.code.Rests.{AreAhead}
-use Rattle.placement.proofs.Placing.{as_many, all_before, placing_empty, placing_more, placing_whole}
+use Rattle.placement.proofs.Placing.{as_many, all_before, known_here, placing_empty, placing_more, placing_whole}
 use Rattle.placement.proofs.placed.slots_of.Goals as goal
 
 pub loop-index-init : goal.loop-index-init
 loop-index-init c = record {
-  placing = placing_empty _ _ _ _ c.new-calls.ensures c.new-conflicts.ensures.empty c.in_ok-slots.ensures.items;
-  ahead = subst (AreAhead 0) (sym c.in_ok-slots.ensures.items) tt;
+  placing = placing_empty _ _ _ _ c.new-calls.ensures c.in_ok-conflicts.ensures.untold c.in_ok-conflicts.ensures.known c.in_ok-slots.ensures.items;
+  ahead = subst (λ (kept : List KeptSlot). AreAhead 0 (slots_in 0 kept)) (sym c.in_ok-slots.ensures.items) tt;
 }
 
 pub answer-requires-clause-room : goal.answer-requires-clause-room
@@ -18,9 +20,13 @@ pub answer-requires-clause-before : goal.answer-requires-clause-before
 answer-requires-clause-before c =
     all_before c.args.entries.now c.loop-index.index c.index-entries-index.result c.loop-index.calls c.loop-index.conflicts c.loop-index.slots.items c.loop-index-test.true c.loop-index.invariant.placing
 
+pub answer-requires-clause-known : goal.answer-requires-clause-known
+answer-requires-clause-known c =
+    known_here c.args.entries.now c.loop-index.index c.index-entries-index.result c.loop-index.calls c.loop-index.conflicts c.loop-index.slots.items c.loop-index-test.true c.loop-index.invariant.placing c.index-entries-index.is
+
 pub loop-index-preserved : goal.loop-index-preserved
 loop-index-preserved c = record {
-  placing = placing_more c.args.entries.now c.loop-index.index c.index-entries-index.result c.loop-index.calls c.loop-index.conflicts c.loop-index.slots.items c.loop-index-test.true c.loop-index.invariant.placing c.note_call.new.calls c.note_conflicts.new.conflicts c.answer.new.slots.items c.index-entries-index.is c.in_ok-note_call.ensures c.in_ok-answer.ensures.standing c.in_ok-note_conflicts.ensures;
+  placing = placing_more c.args.entries.now c.loop-index.index c.index-entries-index.result c.loop-index.calls c.loop-index.conflicts c.loop-index.slots.items c.loop-index-test.true c.loop-index.invariant.placing c.note_call.new.calls c.note_conflicts.new.conflicts c.answer.new.slots.items c.index-entries-index.is c.in_ok-note_call.ensures c.in_ok-answer.ensures.standing c.in_ok-note_conflicts.ensures.located c.in_ok-note_conflicts.ensures.known;
   ahead = c.in_ok-answer.ensures.ahead c.loop-index.invariant.ahead;
 }
 

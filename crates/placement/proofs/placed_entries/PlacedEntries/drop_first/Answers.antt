@@ -4,11 +4,13 @@ use Rattle.std.proofs.lemmas.Option.{slice_get_within}
 use Rattle.model.specs.declared.op.Op.{Op}
 use Rattle.messages.specs.declared.entry.Entry.{Entry}
 use Rattle.cluster_core.specs.code.Calls.{called_by}
-use Rattle.placement.specs.declared.slot.Slot.{Slot}
-use Rattle.placement.specs.declared.slot.Slot.TheVariants.{Empty}
+use Rattle.placement.specs.declared.kept_slot.KeptSlot.{KeptSlot}
 use Rattle.placement.specs.code.Rests.{without_first}
 use Rattle.placement.proofs.Rests.{goes, last_is}
 use Rattle.placement.proofs.placed_entries.PlacedEntries.drop_first.Goals as goal
+
+blank : KeptSlot
+blank = record { call = 0; reply = 0 }
 
 pub returns-clause-goes : goal.returns-clause-goes
 returns-clause-goes c =
@@ -21,13 +23,13 @@ returns-clause-goes c =
     let long_slots = slots.ok.0 in
     let each = c.self.invariant.each in
     let entry = get_or entries.items (entries.len - 1) c.in-Some.entry.now in
-    let slot = get_or slots.items (slots.len - 1) Empty in
+    let slot = get_or slots.items (slots.len - 1) blank in
     let popped = c.pop.ensures.items ∙ ap (λ (o : Option Entry). c.pop.new.self.items ++ option_to_list o) (c.pop.ensures.value c.in-Some.entry.now (omega arith)) in
-    let popped_slot = c.pop-2.ensures.items ∙ ap (λ (o : Option Slot). c.pop-2.new.self.items ++ option_to_list o) (c.pop-2.ensures.value Empty (omega arith)) in
+    let popped_slot = c.pop-2.ensures.items ∙ ap (λ (o : Option KeptSlot). c.pop-2.new.self.items ++ option_to_list o) (c.pop-2.ensures.value blank (omega arith)) in
     let read = last_is entries.items c.pop.new.self.items entry c.in-Some.entry.now popped last in
     goes made c.push.new.self entries.items c.give_back.new.entries.items slots.items c.give_back.new.slots.items entry slot
     (popped ∙ ap (λ (xs : List Entry). xs ++ entry ∷ []) (sym c.give_back.ensures.entries))
-    (popped_slot ∙ ap (λ (ss : List Slot). ss ++ slot ∷ []) (sym c.give_back.ensures.slots))
+    (popped_slot ∙ ap (λ (ss : List KeptSlot). ss ++ slot ∷ []) (sym c.give_back.ensures.slots))
     c.self.invariant.ahead
     (c.in_ok-push.ensures.more ∙ ap (λ (o : Option (ℕ × Op)). made ++ o ∷ []) (c.made_by.ensures ∙ ap (λ (e : Entry). called_by e.event None) read))
     ∙ ap without_first c.self.view_is
