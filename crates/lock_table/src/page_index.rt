@@ -20,7 +20,7 @@ use model::owner::Owner;
 use std::alloc::{AllocError, Global};
 
 // The number of bytes in a page.
-const PAGE: u64 = 2048;
+const PAGE: u64 = 256;
 
 // The least and the greatest number of an index's sets of owners, for pages, and how many of them it
 // has for each row of its table.

@@ -114,8 +114,8 @@ fn marks_below(rows: &[OwnerLocks], bound: usize) -> usize
     }
 }
 
-// The place of the first row, from place `from` on, whose owner may be in the set. Rows that are not
-// are passed at once where all are, else by halving.
+// The place of the first row, from place `from` on, whose owner may be in the set. Where none is, the
+// last row tells so; else the place is found by halving.
 pub(crate) fn next_near(rows: &[OwnerLocks], from: usize, near: &OwnerSet) -> usize
     requires rows { AreRows rows.now }
     requires from { from ≤ length rows.now }
