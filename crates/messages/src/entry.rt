@@ -61,6 +61,7 @@ impl Entry {
 
     /// The entry of an event with its outcome, and the incarnation or epoch that it names, from 1,
     /// else 0; `reply` is the outcome's reply as the entry keeps it.
+    #[inline(always)]
     pub fn at_node(event: Event, incarnation: u16, outcome: Outcome, reply: KeptReply) -> Entry
         requires named { NamesItsCall event outcome.call }
         requires incarnated { NamesItsIncarnation event incarnation }

@@ -77,6 +77,7 @@ fn answered(incarnation: u16, number: u32, answer: Answer, sends: CompactSends) 
 
 impl KeptOutcome {
     /// The incarnation, the number, the reply and the messages. It takes no memory.
+    #[inline]
     pub(crate) fn new(incarnation: u16, number: u32, reply: KeptReply, sends: Sends) -> KeptOutcome
         ensures name { name_in result ≡ (incarnation, number) }
         ensures reply { reply_in result ≡ reply }

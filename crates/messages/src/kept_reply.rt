@@ -55,15 +55,4 @@ impl KeptReply {
         };
         Ok(KeptReply { kept })
     }
-
-    /// The call that is answered, and its reply.
-    pub fn get(&self) -> Option<(CallId, Reply)>
-        ensures { result ≡ self.now }
-    {
-        match &self.kept {
-            CompactReply::Nothing => None,
-            CompactReply::Done(call) => Some((*call, Reply::Done)),
-            CompactReply::Other(reply) => Some(**reply),
-        }
-    }
 }

@@ -69,6 +69,7 @@ impl World {
     }
 
     // Declares the node failed. Gives the entry.
+    #[inline(never)]
     fn declare(&mut self, node: u8) -> Entry
         requires room { self.old.length < journal_limit }
         requires node { is_within self.old.shape.nodes node ≡ true }
@@ -85,6 +86,7 @@ impl World {
     }
 
     // Restarts the node, in this state. Gives the entry.
+    #[inline(never)]
     fn restart(&mut self, node: u8, begun: Box<Node>) -> Entry
         requires room { self.old.length < journal_limit }
         requires made { IsRestart self.old node begun.value }

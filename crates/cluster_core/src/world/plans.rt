@@ -231,6 +231,7 @@ impl World {
     }
 
     // The change by which a member is declared failed or begins again, or the refusal.
+    #[inline(never)]
     fn plan_member(&self, alloc: Global, event: &MemberEvent) -> Result<WorldChange, Refused>
         requires { has_member (world_state self.now) event.now ≡ true }
         ensures ok { IfOk result (λ change. Makes self.now (Member event.now) change (member_rule (world_state self.now) event.now)) }

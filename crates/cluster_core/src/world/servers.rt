@@ -72,6 +72,7 @@ impl World {
     }
 
     /// Declares the token server of the file failed. Gives the entry.
+    #[inline(never)]
     pub(super) fn fail(&mut self, file: u16) -> Entry
         requires room { self.old.length < journal_limit }
         requires file { is_within self.old.shape.files file ≡ true }
@@ -89,6 +90,7 @@ impl World {
 
     /// Starts the token server of the file again, in this state, with the messages in which it asks the nodes for
     /// their tokens. Gives the entry.
+    #[inline(never)]
     pub(super) fn start(
         &mut self,
         file: u16,
