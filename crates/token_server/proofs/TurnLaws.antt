@@ -1,7 +1,7 @@
 -- The turns of the active requests, in order.
 use Rattle.std.specs.Prelude.{◌≡◌, ℕ, zero, suc, ◌+◌, ◌<◌, ◌≤◌, Bool, true, false, not, cond, ◌&&◌, ◌==◌, nat_le, nat_lt, List, [], ◌∷◌, ◌++◌, filter, length, slice_get, slice_index_or, All, is_some, Option, Some, None, Result, Ok, Err}
-use Rattle.std.specs.Option.{option_map, option_to_list}
-use Rattle.std.proofs.Common.{refl, sym, ap, subst, ◌∙◌, inl, inr, arith, take, drop, get_or, append-nil, append_assoc}
+use Rattle.std.specs.Option.{option_map, option_to_list, option_copied}
+use Rattle.std.proofs.Common.{Bor, refl, sym, ap, subst, ◌∙◌, inl, inr, arith, take, drop, get_or, append-nil, append_assoc}
 use Rattle.std.proofs.lemmas.Bool.{both_ways, and_parts, leb-true, le-leb, lt-leb, cases_lt}
 use Rattle.std.proofs.lemmas.Bool.Decides.{eqb_tells}
 use Rattle.std.proofs.lemmas.List.{map-append, take_more, take_all, take-append-drop}
@@ -301,6 +301,11 @@ quiet-more (t ∷ ts) more s n quiet = by (t.node == n) quiet (quiet-more ts mor
     by : (b : Bool) → is_idle (row_told (cond b (Some t) (told_to ts n)) (s.rows n)) ≡ false → (is_idle ((with_told ts s).rows n) ≡ false → is_idle ((with_told (ts ++ more) s).rows n) ≡ false) → is_idle (row_told (cond b (Some t) (told_to (ts ++ more) n)) (s.rows n)) ≡ false
     by true quiet rest = quiet-some t (s.rows n)
     by false quiet rest = rest quiet
+
+-- a command is found where it is lent
+pub copied-some : (o : Option (Bor SentCommand)) → is_some (option_copied o) ≡ is_some o
+copied-some None = refl
+copied-some (Some t) = refl
 
 -- a node to which a command was sent has one outstanding
 pub told-quiet : (ts : List SentCommand) (s : ServerState) (n : ℕ) → is_some (told_to ts n) ≡ true → is_idle ((with_told ts s).rows n) ≡ false

@@ -1,5 +1,5 @@
 //! The commands that a token server sends as it serves.
-ghost use Rattle.std.specs.Prelude.{◌≡◌};
+ghost use Rattle.std.specs.Prelude.{◌≡◌, option_copied};
 ghost use Rattle.token_server.specs.code.Told.{told_to};
 
 use crate::known_nodes::commands::Commands;
@@ -14,8 +14,8 @@ pub struct SentCommand {
 }
 
 /// The command to the node among these, if there is one.
-pub fn told_to(told: &[SentCommand], node: u8) -> Option<SentCommand>
-    ensures { result ≡ told_to told.now node }
+pub fn told_to(told: &[SentCommand], node: u8) -> Option<&SentCommand>
+    ensures { option_copied result ≡ told_to told.now node }
 {
-    told.iter().find(|told| told.node == node).copied()
+    told.iter().find(|told| told.node == node)
 }

@@ -79,7 +79,7 @@ impl Server {
         };
         let free = row.token.free_around(required, within, mode);
         match told_to(told, node) {
-            Some(told) => cut_granted(&told, required, free, mode),
+            Some(told) => cut_granted(told, required, free, mode),
             None => free,
         }
     }

@@ -13,7 +13,7 @@ use Rattle.token_server.specs.code.Told.{told_to}
 use Rattle.token_server.specs.rule.Parts.{ServerParts, server_state}
 use Rattle.token_server.specs.code.Edits.{keeps, held_after, drafted}
 use Rattle.token_server.specs.code.Turns.{kept, kept_of, AreServed}
-use Rattle.token_server.proofs.TurnLaws.{read-place, waits-place, quiet-place, waits-here, turn-spent, kept-split, kept-turn, kept-left, kept-silent, kept-rest, quiet-told, told-quiet, served-start, index-past, rest-untouched, rest-told}
+use Rattle.token_server.proofs.TurnLaws.{read-place, waits-place, quiet-place, waits-here, turn-spent, kept-split, kept-turn, kept-left, kept-silent, kept-rest, quiet-told, copied-some, told-quiet, served-start, index-past, rest-untouched, rest-told}
 use Rattle.token_server.proofs.server.Server.commands_kept.Goals.{then-keeps+in_ok-serve_one, else-keeps}
 use Rattle.token_server.proofs.server.Server.commands_kept.Goals as goal
 
@@ -97,7 +97,7 @@ loop-place-preserved-then-is_some c =
     let there : slice_get (waiting_for l.ats.items held) i ≡ Some w = waits-place l c.as_slice-active.result.now held i item c.as_slice-ats.result.now c.awaited-at.result read c.as_slice-ats.ensures.value c.loop-place-test.true c.index-active-place.is c.awaited-at.ensures in
     let told : List SentCommand = c.loop-place.told.items in
     let some : is_some (told_to told c.awaited-at.result) ≡ true =
-    ap (λ (ts : List SentCommand). is_some (told_to ts c.awaited-at.result)) (sym c.as_slice.ensures.value) ∙ ap is_some (sym c.told_to.ensures) ∙ sym c.is_some.ensures ∙ c.if-is_some.true in
+    ap (λ (ts : List SentCommand). is_some (told_to ts c.awaited-at.result)) (sym c.as_slice.ensures.value) ∙ ap is_some (sym c.told_to.ensures) ∙ copied-some c.told_to.result ∙ sym c.is_some.ensures ∙ c.if-is_some.true in
     kept-silent l held s told i w there (told-quiet told s c.awaited-at.result some) c.loop-place.invariant
 
 pub returns-then-none_may_come-clause-ok : goal.returns-then-none_may_come-clause-ok
@@ -126,7 +126,7 @@ returns-then-ats-place-clause-ok c =
     let quiet : All (λ h. is_idle ((server_state c.args.self.now).rows h.at) ≡ false) held =
     subst (λ (p : ServerParts). All (λ h. is_idle ((server_state p).rows h.at) ≡ false) p.active.held) c.self.view_is c.self.invariant.ready.quiet in
     let some : is_some (told_to told c.awaited-at.result) ≡ true =
-    ap (λ (ts : List SentCommand). is_some (told_to ts c.awaited-at.result)) (sym c.as_slice.ensures.value) ∙ ap is_some (sym c.told_to.ensures) ∙ sym c.is_some.ensures ∙ c.if-is_some.true in
+    ap (λ (ts : List SentCommand). is_some (told_to ts c.awaited-at.result)) (sym c.as_slice.ensures.value) ∙ ap is_some (sym c.told_to.ensures) ∙ copied-some c.told_to.result ∙ sym c.is_some.ensures ∙ c.if-is_some.true in
     let many : length c.as_slice-ats.result.now ≡ length l.ats.items = ap (λ (xs : List ℕ). length xs) c.as_slice-ats.ensures.value in
     let past : length l.ats.items ≤ i = omega (arith, many, c.if-ats-place.true) in
     let same : c.awaited-at.result ≡ item.at = c.awaited-at.ensures ∙ ap (λ (xs : List ℕ). slice_index_or xs i item.at) c.as_slice-ats.ensures.value ∙ index-past l.ats.items i item.at past in

@@ -1,4 +1,4 @@
-use Rattle.std.specs.Prelude.{◌≡◌, ◌≤◌, List, Option, Some, None}
+use Rattle.std.specs.Prelude.{◌≡◌, ◌≤◌, List, Option, Some, None, option_copied}
 use Rattle.std.proofs.Common.{sym, ap, ◌∙◌, arith}
 use Rattle.intervals.specs.rule.Bytes.{Range, largest_around}
 use Rattle.token_server.specs.declared.known_nodes.known_node.KnownNode.{KnownNode}
@@ -37,12 +37,12 @@ returns-in-Some-told_to c =
     let hi = ap (λ (s : Range). s.hi) c.required.view_is in
     let inside = c.required.invariant.0 in
     let order : c.args.required.lo ≤ c.args.required.hi = omega (arith, lo, hi, inside) in
-    let t : SentCommand = c.in-Some-told_to.told in
+    let t : SentCommand = c.in-Some-told_to.told.now in
     let there : Row = seen c.in-Some.row in
     let row : Option Row = rows_overlaid c.args.self.now.known_nodes c.args.draft.now.rows c.args.node in
     let known_nodes : c.args.self.now.known_nodes ≡ c.self.inside.known_nodes = ap (λ (p : ServerParts). p.known_nodes) (sym c.self.view_is) in
     let is : row ≡ Some there = ap (λ (cs : List KnownNode). rows_overlaid cs c.args.draft.now.rows c.args.node) known_nodes ∙ c.in-Some.ensures.row in
-    let tells : told_to c.args.told.now c.args.node ≡ Some t = sym c.told_to.ensures ∙ c.in-Some-told_to.is in
+    let tells : told_to c.args.told.now c.args.node ≡ Some t = sym c.told_to.ensures ∙ ap option_copied c.in-Some-told_to.is in
     let same : row_told (told_to c.args.told.now c.args.node) row ≡ row_told (Some t) (Some there) = (λ i. row_told (tells i) (is i)) in
     let clear = ap (λ (o : Option Row). row_conflicts o c.args.required c.args.mode) (sym same) ∙ c.requires.free in
     let l = c.free_around-free.ensures.largest in
