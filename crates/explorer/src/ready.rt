@@ -84,7 +84,8 @@ fn ready_in(
 
 // Whether the command is a call of a process that has one of these calls.
 fn is_caller_in(calls: &Calls, command: &ScriptCommand) -> bool
-    ensures { result ≡ true → HoldsOfCaller (λ node pid. list_in calls.now node pid ≢ []) command.now }
+    ensures held { result ≡ true → HoldsOfCaller (λ node pid. list_in calls.now node pid ≢ []) command.now }
+    ensures none { result ≡ false → HoldsOfCaller (λ node pid. list_in calls.now node pid ≡ []) command.now }
 {
     match command {
         ScriptCommand::Call { node, pid, .. } => count(calls, *node, *pid) > 0,

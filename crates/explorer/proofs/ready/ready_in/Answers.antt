@@ -17,7 +17,7 @@ loop-line-preserved-then-is_caller_in c taken calls made node pid =
     let l = c.line-item.result in
     let Stops : ℕ → ℕ → Type 0 = CannotGoOn lines taken c.args.tries.now c.args.told.now (world_state c.args.world.now) in
     let known = c.loop-line.invariant taken calls made in
-    let here = subst (HoldsOfCaller Stops) c.command-command.ensures.value (held-caller Stops c.loop-line.looked c.command-command.result (c.is_caller_in.ensures c.if-is_caller_in.true) (λ n p. (known n p).1)) in
+    let here = subst (HoldsOfCaller Stops) c.command-command.ensures.value (held-caller Stops c.loop-line.looked c.command-command.result (c.is_caller_in.ensures.held c.if-is_caller_in.true) (λ n p. (known n p).1)) in
     let next = held-next Stops node pid l.command (calls_in node pid (take i lines)) here (known node pid).0 in
     (subst (λ (ops : List Op). ops ≡ [] ⊎ Stops node pid) (sym (calls-more node pid lines i l c.loop-line-test.true c.line-item.is)) next, (known node pid).1)
 
