@@ -3,6 +3,7 @@ pub mod CallIndexes
 pub mod Index
 pub mod KeptSlots
 pub mod Locating
+pub mod Once
 pub mod Placing
 pub mod Placements
 pub mod Replays

@@ -1,5 +1,5 @@
 -- The rest of a run whose entries go one by one.
-use Rattle.std.proofs.Common.{◌≡◌, ℕ, zero, suc, ◌+◌, ◌-◌, ◌<◌, ◌≤◌, refl, sym, ◌∙◌, ap, subst, arith, List, [], ◌∷◌, ◌++◌, length, length-append, map, reverse, drop, get_or, slice_get, slice_set, Option, Some, None}
+use Rattle.std.proofs.Common.{◌≡◌, ◌≢◌, ℕ, zero, suc, ◌+◌, ◌-◌, ◌<◌, ◌≤◌, ◌⊎◌, inl, inr, refl, sym, ◌∙◌, ap, subst, arith, List, [], ◌∷◌, ◌++◌, length, length-append, map, reverse, drop, get_or, slice_get, slice_set, Bool, IsTrue, Option, Some, None}
 use Rattle.std.proofs.lemmas.List.{length-map, length-reverse, get_or-reverse, reverse-append}
 use Rattle.std.proofs.Math.Seq.{get_or-append_seam}
 use Rattle.std.proofs.lemmas.Option.{slice_get-get_or, slice_get_past, get_or_from_slice_get, none-some, same_Some}
@@ -10,8 +10,8 @@ use Rattle.placement.specs.declared.slot.Slot.{Slot}
 use Rattle.placement.specs.declared.slot.Slot.TheVariants.{Empty, Declared, Answered}
 use Rattle.placement.specs.declared.kept_slot.KeptSlot.{KeptSlot}
 use Rattle.placement.specs.code.Standing.{made_by, declared_by, answered_by, stands, standing}
-use Rattle.placement.specs.code.KeptSlots.{slot_in, slots_in}
-use Rattle.placement.specs.code.Rests.{RestFields, StartsWith, without_first, called_at, stands_from, IsAhead, AreAhead}
+use Rattle.placement.specs.code.KeptSlots.{slot_in, slots_in, call_of}
+use Rattle.placement.specs.code.Rests.{RestFields, StartsWith, without_first, called_at, stands_from, IsAhead, AreAhead, StandsInNone, AreOnce, IsKept}
 use Rattle.placement.proofs.KeptSlots.{length-slots_in}
 
 -- a slot more, and another in the place of one
@@ -65,26 +65,41 @@ module _ (e : Entry) (rest : List Entry) where
   called_next (m ∷ ms) zero = refl
   called_next (m ∷ ms) (suc k) = called_next ms k
 
+  called_other : (kept : Option (ℕ × Op)) (made : List (Option (ℕ × Op))) (k : ℕ) → k ≢ length made → called_at made (e ∷ rest) k ≡ called_at (made ++ kept ∷ []) rest k
+  called_other kept [] zero other = absurd (other refl)
+  called_other kept [] (suc k) other = refl
+  called_other kept (m ∷ ms) zero other = refl
+  called_other kept (m ∷ ms) (suc k) other = called_other kept ms k (λ is. other (omega (arith, is)))
+
   left_next : (n k : ℕ) → n + 1 ≤ k → slice_get (e ∷ rest) (k - n) ≡ slice_get rest (k - (n + 1))
   left_next n k le =
       let is : k - n ≡ suc (k - (n + 1)) = omega arith in
       ap (slice_get (e ∷ rest)) is
 
-  module _ (made : List (Option (ℕ × Op))) where
-    abbrev more : List (Option (ℕ × Op))
-    more = made ++ made_by (Some e) ∷ []
+  -- its call is kept, or none is
+  module _ (made : List (Option (ℕ × Op))) (kept : Option (ℕ × Op)) where
+    abbrev pub more : List (Option (ℕ × Op))
+    more = made ++ kept ∷ []
 
     length-more : length more ≡ length made + 1
-    length-more = length-append made (made_by (Some e) ∷ [])
+    length-more = length-append made (kept ∷ [])
 
     at_next : (k : ℕ) → length made + 1 ≤ k → slice_get (e ∷ rest) (k - length made) ≡ slice_get rest (k - length more)
     at_next k le = left_next (length made) k le ∙ ap (λ (n : ℕ). slice_get rest (k - n)) (sym length-more)
 
-    stands_next : (s : Slot) → IsAhead (length made + 1) s → stands_from made (e ∷ rest) s ≡ stands_from more rest s
-    stands_next Empty ahead = refl
-    stands_next (Declared at entry) ahead = ap (declared_by at) (at_next entry ahead)
-    stands_next (Answered at call reply) ahead =
-        ap (λ (o : Option (ℕ × Op)). answered_by at o (slice_get (e ∷ rest) (reply - length made))) (called_next made call)
+    -- the call is kept, or stands in no slot that is left
+    abbrev KeptOr : Type 0 → Type 0
+    KeptOr Unneeded = (kept ≡ made_by (Some e)) ⊎ Unneeded
+
+    called_more : (k : ℕ) → KeptOr (Some k ≢ Some (length made)) → called_at made (e ∷ rest) k ≡ called_at more rest k
+    called_more k (inl is) = called_next made k ∙ ap (λ (o : Option (ℕ × Op)). called_at (made ++ o ∷ []) rest k) (sym is)
+    called_more k (inr other) = called_other kept made k (λ is. other (ap (λ (n : ℕ). Some n) is))
+
+    stands_next : (s : Slot) → IsAhead (length made + 1) s → KeptOr (call_of s ≢ Some (length made)) → stands_from made (e ∷ rest) s ≡ stands_from more rest s
+    stands_next Empty ahead way = refl
+    stands_next (Declared at entry) ahead way = ap (declared_by at) (at_next entry ahead)
+    stands_next (Answered at call reply) ahead way =
+        ap (λ (o : Option (ℕ × Op)). answered_by at o (slice_get (e ∷ rest) (reply - length made))) (called_more call way)
         ∙ ap (answered_by at (called_at more rest call)) (at_next reply ahead)
 
     from_later : (k : ℕ) (s : Slot) → length made + 1 ≤ k → IsAhead k s → IsAhead (length made + 1) s
@@ -92,14 +107,22 @@ module _ (e : Entry) (rest : List Entry) where
     from_later k (Declared at entry) le ahead = omega (arith, le, ahead)
     from_later k (Answered at call reply) le ahead = omega (arith, le, ahead)
 
-    standing_later : (k : ℕ) (slots : List Slot) → length made + 1 ≤ k → AreAhead k slots → map (stands_from made (e ∷ rest)) slots ≡ map (stands_from more rest) slots
-    standing_later k [] le ahead = refl
-    standing_later k (s ∷ ss) le ahead =
-        ap (λ (o : Option Item). o ∷ map (stands_from made (e ∷ rest)) ss) (stands_next s (from_later k s le ahead.0))
-        ∙ ap (λ (os : List (Option Item)). stands_from more rest s ∷ os) (standing_later (k + 1) ss (omega arith) ahead.1)
+    of_first : (s : Slot) (ss : List Slot) → KeptOr (StandsInNone (length made) (s ∷ ss)) → KeptOr (call_of s ≢ Some (length made))
+    of_first s ss (inl is) = inl is
+    of_first s ss (inr none) = inr none.0
 
-    pub standing_next : (slots : List Slot) → AreAhead (length made + 1) slots → map (stands_from made (e ∷ rest)) slots ≡ map (stands_from more rest) slots
-    standing_next slots ahead = standing_later (length made + 1) slots (omega arith) ahead
+    of_rest : (s : Slot) (ss : List Slot) → KeptOr (StandsInNone (length made) (s ∷ ss)) → KeptOr (StandsInNone (length made) ss)
+    of_rest s ss (inl is) = inl is
+    of_rest s ss (inr none) = inr none.1
+
+    standing_later : (k : ℕ) (slots : List Slot) → length made + 1 ≤ k → AreAhead k slots → KeptOr (StandsInNone (length made) slots) → map (stands_from made (e ∷ rest)) slots ≡ map (stands_from more rest) slots
+    standing_later k [] le ahead way = refl
+    standing_later k (s ∷ ss) le ahead way =
+        ap (λ (o : Option Item). o ∷ map (stands_from made (e ∷ rest)) ss) (stands_next s (from_later k s le ahead.0) (of_first s ss way))
+        ∙ ap (λ (os : List (Option Item)). stands_from more rest s ∷ os) (standing_later (k + 1) ss (omega arith) ahead.1 (of_rest s ss way))
+
+    pub standing_next : (slots : List Slot) → AreAhead (length made + 1) slots → KeptOr (StandsInNone (length made) slots) → map (stands_from made (e ∷ rest)) slots ≡ map (stands_from more rest) slots
+    standing_next slots ahead way = standing_later (length made + 1) slots (omega arith) ahead way
 
 -- the entry with that index among those that are kept from the last to the first
 pub left_within : (es : List Entry) (k : ℕ) (d : Entry) → k < length es → slice_get (reverse es) k ≡ Some (get_or es (length es - 1 - k) d)
@@ -177,22 +200,38 @@ pub stands_at_first : (made : List (Option (ℕ × Op))) (es : List Entry) (kept
 stands_at_first made es kept s is =
     sym (ap (λ (ks : List KeptSlot). get_or (map (stands_from made (reverse es)) (slots_in (length made) ks)) 0 None) (begins (reverse kept) s (reversed_first kept ∙ sym is)))
 
--- the first entry that is left goes
-pub goes : (made grown : List (Option (ℕ × Op))) (es fewer : List Entry) (kept others : List KeptSlot) (e : Entry) (s : KeptSlot) → es ≡ fewer ++ e ∷ [] → kept ≡ others ++ s ∷ [] → AreAhead (length made) (slots_in (length made) (reverse kept)) → grown ≡ made ++ made_by (Some e) ∷ [] → rest_of grown fewer others ≡ without_first (rest_of made es kept)
-goes made grown es fewer kept others e s es_is kept_is ahead grown_is =
+-- the slots behind the first one
+pub behind_first : (n : ℕ) (kept others : List KeptSlot) (s : KeptSlot) → kept ≡ others ++ s ∷ [] → slots_in n (reverse kept) ≡ slot_in n s ∷ slots_in (n + 1) (reverse others)
+behind_first n kept others s is = ap (slots_in n) (reverse_last kept others s is)
+
+-- the last element is read
+last_of : {A : Type 0} (old new : List A) (x : A) → old ≡ new ++ x ∷ [] → Some x ≡ slice_get old (length old - 1)
+last_of {A} old new x is =
+    let long = ap length is ∙ length-append new (x ∷ []) in
+    let place : length old - 1 ≡ length new = omega arith in
+    sym (slice_get-get_or old (length old - 1) x (omega arith) ∙ ap (λ (y : A). Some y) (ap (λ (n : ℕ). get_or old n x) place ∙ (ap (λ (xs : List A). get_or xs (length new) x) is ∙ get_or-append_seam new x [] x)))
+
+-- the call of the first entry is kept, or stands in no slot behind
+pub kept_or_unneeded : (once : Bool) (n : ℕ) (kept others : List KeptSlot) (s : KeptSlot) (wanted called : Option (ℕ × Op)) → kept ≡ others ++ s ∷ [] → (IsTrue once → AreOnce n (slots_in n (reverse kept))) → IsKept once kept n wanted called → (called ≡ wanted) ⊎ StandsInNone n (slots_in (n + 1) (reverse others))
+kept_or_unneeded once n kept others s wanted called is known (inl same) = inl same
+kept_or_unneeded once n kept others s wanted called is known (inr way) = inr ((subst (AreOnce n) (behind_first n kept others s is) (known way.0)).0 (way.1 s (last_of kept others s is) n))
+
+-- the first entry that is left goes, and its call is kept, or none is, which stands in no slot behind
+pub goes : (made grown : List (Option (ℕ × Op))) (es fewer : List Entry) (kept others : List KeptSlot) (e : Entry) (s : KeptSlot) (called : Option (ℕ × Op)) → es ≡ fewer ++ e ∷ [] → kept ≡ others ++ s ∷ [] → AreAhead (length made) (slots_in (length made) (reverse kept)) → grown ≡ made ++ called ∷ [] → (called ≡ made_by (Some e)) ⊎ StandsInNone (length made) (slots_in (length made + 1) (reverse others)) → rest_of grown fewer others ≡ without_first (rest_of made es kept)
+goes made grown es fewer kept others e s called es_is kept_is ahead grown_is way =
     let left = reverse_last es fewer e es_is in
-    let still = reverse_last kept others s kept_is in
     let n = length made in
-    let more = made ++ made_by (Some e) ∷ [] in
+    let more = made ++ called ∷ [] in
     let slots = slots_in (n + 1) (reverse others) in
+    let still = behind_first n kept others s kept_is in
     let entries : reverse fewer ≡ drop 1 (reverse es) = sym (ap (λ (xs : List Entry). drop 1 xs) left) in
-    let behind = (subst (λ (ks : List KeptSlot). AreAhead n (slots_in n ks)) still ahead).1 in
+    let behind = (subst (AreAhead n) still ahead).1 in
     let items : map (stands_from grown (reverse fewer)) (slots_in (length grown) (reverse others)) ≡ drop 1 (map (stands_from made (reverse es)) (slots_in n (reverse kept))) =
     ap (λ (m : List (Option (ℕ × Op))). map (stands_from m (reverse fewer)) (slots_in (length m) (reverse others))) grown_is
-    ∙ (ap (λ (k : ℕ). map (stands_from more (reverse fewer)) (slots_in k (reverse others))) (length-append made (made_by (Some e) ∷ []))
-    ∙ (sym (standing_next e (reverse fewer) made slots behind)
+    ∙ (ap (λ (k : ℕ). map (stands_from more (reverse fewer)) (slots_in k (reverse others))) (length-append made (called ∷ []))
+    ∙ (sym (standing_next e (reverse fewer) made called slots behind way)
     ∙ (ap (λ (xs : List Entry). map (stands_from made xs) slots) (sym left)
-    ∙ sym (ap (λ (ks : List KeptSlot). drop 1 (map (stands_from made (reverse es)) (slots_in n ks))) still)))) in
+    ∙ sym (ap (λ (ss : List Slot). drop 1 (map (stands_from made (reverse es)) ss)) still)))) in
     ap (λ (xs : List Entry). rest xs (map (stands_from grown (reverse fewer)) (slots_in (length grown) (reverse others)))) entries
     ∙ ap (λ (os : List (Option Item)). rest (drop 1 (reverse es)) os) items
   where

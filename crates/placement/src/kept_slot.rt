@@ -2,7 +2,7 @@
 ghost use Rattle.std.specs.Prelude.{ℕ, ◌≡◌, ◌<◌, ◌+◌};
 ghost use Rattle.cluster_core.specs.rule.World.{journal_limit};
 ghost use Rattle.placement.specs.declared.slot.Slot.TheVariants.{Empty, Declared, Answered};
-ghost use Rattle.placement.specs.code.KeptSlots.{slot_in};
+ghost use Rattle.placement.specs.code.KeptSlots.{slot_in, call_of};
 
 use crate::slot::Slot;
 
@@ -40,6 +40,16 @@ impl KeptSlot {
         KeptSlot {
             call,
             reply: reply + 2,
+        }
+    }
+
+    /// The index of the entry that makes the call, where a call stands here.
+    pub(crate) fn call(self) -> Option<u32>
+        ensures { (k : ℕ) → result ≡ call_of (slot_in k self) }
+    {
+        match self.reply {
+            0 | 1 => None,
+            _ => Some(self.call),
         }
     }
 

@@ -1,9 +1,10 @@
 //! The entries of a run, which go one by one, each with the item that stands there in the history.
-ghost use Rattle.std.specs.Prelude.{◌≡◌, ◌<◌, ◌≤◌, ◌-◌, reverse as reversed, length, slice_get, option_copied, slice_index_or, None, OnOk, OnErr};
+ghost use Rattle.std.specs.Prelude.{◌≡◌, ◌≢◌, ◌<◌, ◌≤◌, ◌-◌, ℕ, true, false, reverse as reversed, length, slice_get, option_copied, slice_index_or, Some, None, OnOk, OnErr};
 ghost use Rattle.cluster_core.specs.rule.World.{journal_limit};
+ghost use Rattle.cluster_core.specs.code.Calls.{called_by};
 ghost use Rattle.placement.specs.code.Standing.{made_by, standing};
-ghost use Rattle.placement.specs.code.KeptSlots.{slots_in};
-ghost use Rattle.placement.specs.code.Rests.{StartsWith, without_first, IsAhead, AreAhead, called_at, stands_from};
+ghost use Rattle.placement.specs.code.KeptSlots.{slot_in, slots_in, call_of};
+ghost use Rattle.placement.specs.code.Rests.{StartsWith, without_first, IsAhead, AreAhead, AreOnce, StandsOnce, IsKept, called_at, stands_from};
 
 use crate::kept_slot::KeptSlot;
 use crate::made::Made;
@@ -18,11 +19,13 @@ use std::marker::Model;
 const ENTRIES_AT_ONCE: usize = 16_384;
 
 /// The entries of a run that are left, each with the item that stands there in the history, if one does. An entry
-/// that went needs less memory: only the call that it makes is kept, in 40 bytes.
+/// that went needs less memory: only the call that it makes is kept, in 40 bytes, unless that call stood there too.
 #[derive(Drop)]
 pub struct PlacedEntries {
-    // The calls of the entries that went, in their order.
+    // The calls of the entries that went, in their order, without those that stand at no entry that is left.
     made: Made,
+    // Whether an entry whose own call stands at it is known to be the last at which that call stands.
+    once: bool,
     // The entries that are left and their slots, the last of them first.
     entries: Vec<Entry>,
     slots: Vec<KeptSlot>,
@@ -37,7 +40,7 @@ impl Model for PlacedEntries {
 
     ghost view = { λ p. record { entries = reverse p.entries.items; standing = map (stands_from p.made (reverse p.entries.items)) (slots_in (length p.made) (reverse p.slots.items)) } };
 
-    ghost invariant = { λ p. AreLeft (length p.made) p.entries.items p.slots.items };
+    ghost invariant = { λ p. AreLeft (length p.made) p.entries.items p.slots.items p.once };
 }
 
 impl PlacedEntries {
@@ -50,10 +53,12 @@ impl PlacedEntries {
         ensures standing { result.standing ≡ standing entries.items (slots_in 0 slots.items) }
     {
         let (mut entries, mut slots) = (entries, slots);
+        let once = are_once(slots.as_slice());
         entries.reverse();
         slots.reverse();
         PlacedEntries {
             made: Made::new(alloc),
+            once,
             entries,
             slots,
         }
@@ -88,11 +93,69 @@ impl PlacedEntries {
         let Some(entry) = self.entries.last() else {
             return Ok(());
         };
-        self.made.push(made_by(entry))?;
+        let slots = self.slots.as_slice();
+        let called = call_kept(self.once, slots, self.made.len(), entry);
+        self.made.push(called)?;
         drop(self.entries.pop());
         self.slots.pop();
         give_back(&mut self.entries, &mut self.slots);
         Ok(())
+    }
+}
+
+// Whether each entry whose own call stands at it is the last at which that call stands. In a run it is, since each call
+// stands once.
+fn are_once(slots: &[KeptSlot]) -> bool
+    ensures { result ≡ true → AreOnce 0 (slots_in 0 slots.now) }
+{
+    for place in 0..slots.len() {
+        if stands_twice(slots, place) {
+            return false;
+        }
+    }
+    true
+}
+
+// Whether the call that stands at the entry with that index is another entry's, at which it stands too.
+fn stands_twice(slots: &[KeptSlot], place: usize) -> bool
+    requires { place < length slots.now }
+    ensures { result ≡ false → StandsOnce slots.now place }
+{
+    let slot = &slots[place];
+    match slot.call() {
+        Some(call) if call as usize != place => stands_alone(slots, call as usize),
+        _ => false,
+    }
+}
+
+// Whether the call of the entry with that index stands there.
+fn stands_alone(slots: &[KeptSlot], place: usize) -> bool
+    ensures { result ≡ false → (s : KeptSlot) → slice_get slots.now place ≡ Some s → (k : ℕ) → call_of (slot_in k s) ≢ Some place }
+{
+    match slots.get(place) {
+        Some(slot) => is_call(slot, place),
+        None => false,
+    }
+}
+
+// Whether the call of the entry with that index stands in the slot.
+fn is_call(slot: &KeptSlot, index: usize) -> bool
+    ensures there { result ≡ true → (k : ℕ) → call_of (slot_in k slot.now) ≡ Some index }
+    ensures elsewhere { result ≡ false → (k : ℕ) → call_of (slot_in k slot.now) ≢ Some index }
+{
+    match slot.call() {
+        Some(call) => call as usize == index,
+        None => false,
+    }
+}
+
+// The call of the first entry that is left, which has that index, or none where no slot behind its own needs it.
+fn call_kept(once: bool, slots: &[KeptSlot], index: usize, entry: &Entry) -> Option<(u16, Op)>
+    ensures { IsKept once slots.now index (called_by entry.now.event None) result }
+{
+    match slots.last() {
+        Some(slot) if once && is_call(slot, index) => None,
+        _ => made_by(entry),
     }
 }
 

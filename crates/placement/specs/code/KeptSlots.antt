@@ -1,5 +1,5 @@
 -- Slots as they are kept: without their positions.
-use Rattle.std.specs.Prelude.{ℕ, zero, suc, ◌+◌, List, [], ◌∷◌}
+use Rattle.std.specs.Prelude.{ℕ, zero, suc, ◌+◌, List, [], ◌∷◌, Option, Some, None}
 use Rattle.placement.specs.declared.slot.Slot.{Slot}
 use Rattle.placement.specs.declared.slot.Slot.TheVariants.{Empty, Declared, Answered}
 use Rattle.placement.specs.declared.kept_slot.KeptSlot.{KeptSlot}
@@ -18,3 +18,9 @@ slot_in k kept = coded k kept.call kept.reply
 abbrev pub slots_in : ℕ → List KeptSlot → List Slot
 slots_in k [] = []
 slots_in k (kept ∷ rest) = slot_in k kept ∷ slots_in (k + 1) rest
+
+-- the index of the entry that makes the call in a slot, if a call stands there
+abbrev pub call_of : Slot → Option ℕ
+call_of Empty = None
+call_of (Declared at entry) = None
+call_of (Answered at call reply) = Some call
