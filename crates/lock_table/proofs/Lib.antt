@@ -9,6 +9,7 @@ pub mod ListingLemmas
 pub mod ListingParts
 pub mod FlagLemmas
 pub mod PageLemmas
+pub mod PageSizes
 pub mod NearRows
 pub mod BlockRows
 pub mod BlockSearch

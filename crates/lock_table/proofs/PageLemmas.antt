@@ -93,7 +93,14 @@ pub may-long : (x : PageIndex) (long : OwnerSet) → ((o : Owner) → Has x.long
 may-long x long keeps f o b may = record {
   noted = λ kept. elim (may.noted (kept.0, kept.1)) [
     | inl was ↦ inl (keeps o was)
-    | inr page ↦ inr (rw (get_or_default x.sets.items (slot_of (length x.sets.items) f (b / 256)) long x.long (let some = kept.0 in omega arith)) page)
+    | inr page ↦ inr (rw (get_or_default x.sets.items (slot_of (length x.sets.items) f (b / (x.extra + 64))) long x.long (let some = kept.0 in omega arith)) page)
   ];
+  in_file = λ kept. elim (may.in_file (kept.0, kept.1)) [ inl wide ↦ inl wide | inr file ↦ inr (record { number = file.number; set = file.set }) ];
+}
+
+-- other counts of notes, of runs and of their digits leave all noted
+pub may-counts : (x : PageIndex) (notes runs digits : ℕ) (f : ℕ) (o : Owner) (b : ℕ) → MayHold x f o b → MayHold (record x { notes = notes; runs = runs; digits = digits }) f o b
+may-counts x notes runs digits f o b may = record {
+  noted = may.noted;
   in_file = λ kept. elim (may.in_file (kept.0, kept.1)) [ inl wide ↦ inl wide | inr file ↦ inr (record { number = file.number; set = file.set }) ];
 }

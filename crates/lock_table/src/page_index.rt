@@ -1,7 +1,7 @@
 //! An index of a lock table: which owners may hold bytes of which pages, and in which files.
 //!
 //! Each function here that can fail errs with `AllocError`, where a request for memory was refused.
-ghost use Rattle.std.specs.Prelude.{◌≡◌, ℕ, ◌-◌, ◌<◌, ◌≤◌, ◌^◌, ◌⊎◌, Option, Some, IfOk, IfSome, IsTrue, ◌↔◌};
+ghost use Rattle.std.specs.Prelude.{◌≡◌, ℕ, ◌+◌, ◌-◌, ◌<◌, ◌≤◌, ◌^◌, ◌⊎◌, Option, Some, IfOk, IfSome, IsTrue, ◌↔◌};
 ghost use Rattle.intervals.specs.rule.Bytes.{put};
 ghost use Rattle.intervals.specs.code.Runs.{value_at};
 ghost use Rattle.model.specs.declared.mode.Mode.{Mode as SomeMode};
@@ -19,8 +19,13 @@ use model::mode::Mode;
 use model::owner::Owner;
 use std::alloc::{AllocError, Global};
 
-// The number of bytes in a page.
-const PAGE: u64 = 256;
+// The least number of bytes in a page, and how many more a page has in an index without notes.
+const LEAST_PAGE: u32 = 64;
+
+const FIRST_EXTRA: u32 = 192;
+
+// The greatest number of binary digits of a run's length that count for the size of pages.
+const MOST_DIGITS: u32 = 20;
 
 // The least and the greatest number of an index's sets of owners, for pages, and how many of them it
 // has for each row of its table.
@@ -49,6 +54,10 @@ const MOST_NOTES: u32 = 4096;
 /// Each flag of owners has a set of files; the owners in files past the 256th have a set of their
 /// own. An index without memory isn't kept, and says that each owner may hold each byte. A wrong
 /// hint only costs time.
+///
+/// A page has 64 bytes and `extra` more, which an index chooses anew when it is renewed: pages some
+/// twice as long as the runs that were noted. By shorter pages a run has many sets, each with
+/// owners of other pages; by longer ones many runs share a page.
 #[derive(Drop)]
 pub struct PageIndex {
     sets: Vec<OwnerSet>,
@@ -56,6 +65,9 @@ pub struct PageIndex {
     long: OwnerSet,
     wide: OwnerSet,
     notes: u32,
+    extra: u32,
+    runs: u32,
+    digits: u32,
 }
 
 // The number of sets of owners for a table of so many rows.
@@ -89,11 +101,15 @@ impl PageIndex {
             long: OwnerSet::none(),
             wide: OwnerSet::none(),
             notes: 0,
+            extra: FIRST_EXTRA,
+            runs: 0,
+            digits: 0,
         }
     }
 
-    /// An index with memory for a table of so many rows, whose sets have no owner.
-    pub(crate) fn with_memory(alloc: Global, rows: usize) -> Result<Self, AllocError>
+    /// An index with memory for a table of so many rows, whose sets have no owner, and whose pages
+    /// are as this one's were next.
+    pub(crate) fn with_memory(&self, alloc: Global, rows: usize) -> Result<Self, AllocError>
         ensures { IfOk result IsKept }
     {
         let many = sets_for(rows);
@@ -107,7 +123,27 @@ impl PageIndex {
             long: OwnerSet::none(),
             wide: OwnerSet::none(),
             notes: 0,
+            extra: self.extra_next(),
+            runs: 0,
+            digits: 0,
         })
+    }
+
+    // The number of bytes in a page.
+    fn page_size(&self) -> u64
+        ensures { result ≡ self.now.extra + 64 }
+    {
+        self.extra as u64 + LEAST_PAGE as u64
+    }
+
+    // The number of bytes beyond the least that a page is to have next, by the digits that the
+    // lengths of the noted runs have on average.
+    fn extra_next(&self) -> u32 {
+        let Some(digits) = self.digits.checked_div(self.runs) else {
+            return self.extra;
+        };
+        let page = 2u32 << digits.min(MOST_DIGITS);
+        page.saturating_sub(LEAST_PAGE)
     }
 
     /// Whether the index is kept.
@@ -133,8 +169,9 @@ impl PageIndex {
     pub(crate) fn near(&self, file: u16, span: Span) -> OwnerSet
         ensures { (o : SomeOwner) (b : ℕ) → span.lo ≤ b → b ≤ span.hi → MayHold self.now file o b → Has result o }
     {
-        let first = span.lo / PAGE;
-        let last = span.hi / PAGE;
+        let size = self.page_size();
+        let first = span.lo / size;
+        let last = span.hi / size;
         if !self.is_kept() || last - first > MOST_PAGES {
             return OwnerSet::all();
         }
@@ -183,11 +220,21 @@ impl PageIndex {
         ensures noted { HasPage self.new file owner page }
         ensures files { self.new.files.items ≡ self.old.files.items }
         ensures wide { self.new.wide ≡ self.old.wide }
+        ensures extra { self.new.extra ≡ self.old.extra }
     {
         let slot = slot_of(self.sets.len(), file, page);
         let mut set = self.sets[slot];
         set.add(owner);
         self.sets[slot] = set;
+    }
+
+    // Notes the length of a run, for the size of pages.
+    fn note_length(&mut self, length: u64)
+        ensures { self.new ≡ record self.old { runs = self.new.runs; digits = self.new.digits } }
+    {
+        let digits = u64::BITS.saturating_sub(length.leading_zeros());
+        self.digits = self.digits.saturating_add(digits.min(MOST_DIGITS));
+        self.runs = self.runs.saturating_add(1);
     }
 
     // Notes that the owner may hold the bytes from `lo` to `hi`.
@@ -198,8 +245,10 @@ impl PageIndex {
         ensures noted { (b : ℕ) → lo ≤ b → b ≤ hi → MayHold self.new file owner b }
     {
         self.note_file(file, owner);
-        let first = lo / PAGE;
-        let last = hi / PAGE;
+        self.note_length(hi.saturating_sub(lo));
+        let size = self.page_size();
+        let first = lo / size;
+        let last = hi / size;
         if last.saturating_sub(first) > MOST_PAGES {
             self.long.add(owner);
             return;
@@ -250,18 +299,22 @@ impl PageIndex {
         }
     }
 
-    /// Forgets all notes, and notes what the rows of the blocks hold.
+    /// Forgets all notes, chooses the size of pages anew, and notes what the rows of the blocks
+    /// hold.
     pub(crate) fn renew(&mut self, blocks: &[Block])
         ensures { Covers self.new (rows_held (all_rows blocks.now)) }
     {
         if !self.is_kept() {
             return;
         }
+        self.extra = self.extra_next();
         self.sets.fill(OwnerSet::none());
         self.files.fill(FlagSet::none());
         self.long = OwnerSet::none();
         self.wide = OwnerSet::none();
         self.notes = 0;
+        self.runs = 0;
+        self.digits = 0;
         for block in blocks {
             self.note_rows(block.rows());
         }

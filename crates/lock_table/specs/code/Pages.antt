@@ -44,7 +44,7 @@ pub record HasFile (x : PageIndex) (file : ℕ) (o : Owner) : Type 0 where
 -- if the index is kept, it has the owner in the set of long runs or of the byte's page,
 -- and the file in the set of the owner's flag, or the owner in the set of files without a flag
 pub record MayHold (x : PageIndex) (file : ℕ) (o : Owner) (b : ℕ) : Type 0 where
-  pub noted : IsKept x → Has x.long o ⊎ HasPage x file o (b / 256)
+  pub noted : IsKept x → Has x.long o ⊎ HasPage x file o (b / (x.extra + 64))
   pub in_file : IsKept x → Has x.wide o ⊎ HasFile x file o
 
 -- by the index each owner may hold each byte that it holds

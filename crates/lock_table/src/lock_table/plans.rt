@@ -90,7 +90,7 @@ impl LockTable {
         if self.blocks.len() < LEAST_BLOCKS || !self.index.is_small(rows) {
             return Ok(None);
         }
-        let index = PageIndex::with_memory(alloc, rows)?;
+        let index = self.index.with_memory(alloc, rows)?;
         Ok(Some(Box::new(alloc, index)?))
     }
 
