@@ -1,4 +1,5 @@
 pub mod FileLaws
+pub mod MadeRows
 pub mod CallLaws
 pub mod NodeLaws
 pub mod EpochLaws

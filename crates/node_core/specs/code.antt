@@ -1,3 +1,4 @@
 pub mod Anchors
+pub mod FileRows
 pub mod Hints
 pub mod Plans

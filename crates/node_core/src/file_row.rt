@@ -9,6 +9,7 @@ ghost use Rattle.node_core.specs.rule.Answers.{answer_of};
 ghost use Rattle.node_core.specs.rule.Commands.{is_conflict, renewed};
 ghost use Rattle.node_core.specs.rule.Files.{state_of};
 ghost use Rattle.node_core.specs.rule.Parts.{granted_file, revoked_file};
+ghost use Rattle.node_core.specs.code.FileRows.{first_row};
 ghost use Rattle.node_core.specs.code.Plans.{file_after};
 
 use crate::answer::Answer;
@@ -69,7 +70,8 @@ fn is_conflict(gives: &GaveUp) -> bool
 impl FileRow {
     /// The row of a file that the node knows nothing of: no token, and no command yet.
     pub fn new(alloc: Global) -> FileRow
-        ensures { state_of result ≡ first_file }
+        ensures state { state_of result ≡ first_file }
+        ensures row { result ≡ first_row }
     {
         FileRow {
             token: TokenSet::new(alloc),

@@ -8,7 +8,7 @@ pub mod change;
 pub mod effect;
 pub mod event;
 pub mod file_row;
-mod files;
+mod file_rows;
 mod hints;
 pub mod laws;
 pub mod node;

@@ -10,8 +10,7 @@ ghost use Rattle.node_core.specs.code.Plans.{planned, Fits};
 
 use crate::change::NodeChange;
 use crate::event::NodeEvent;
-use crate::file_row::FileRow;
-use crate::files::{apply_command, clear_owed, copy_files, new_files, same_files};
+use crate::file_rows::FileRows;
 use crate::node_edit::{NodeDraft, NodeEdit, apply_table};
 use crate::numbers::calls_after;
 use crate::open_calls::OpenCalls;
@@ -37,7 +36,7 @@ pub struct Node {
     processes: Processes,
     locks: LockTable,
     pending: OpenCalls,
-    files: Vec<FileRow>,
+    files: FileRows,
 }
 
 impl Model for Node {
@@ -54,7 +53,7 @@ impl Model for Node {
       processes = n.processes;
       locks = n.locks;
       pending = n.pending;
-      files = n.files.items;
+      files = n.files;
     } };
 
     ghost invariant = { λ n. IsNode (record {
@@ -65,7 +64,7 @@ impl Model for Node {
       processes = n.processes;
       locks = n.locks;
       pending = n.pending;
-      files = n.files.items;
+      files = n.files;
     }) };
 }
 
@@ -88,7 +87,7 @@ impl Node {
         ensures { IfOk result (λ made. node_state made ≡ first_node shape node incarnation) }
     {
         let _ = shape.nodes(); // tells the proof that the number of nodes is in range
-        let files = new_files(alloc, shape.files())?;
+        let files = FileRows::new(alloc, shape.files())?;
         Ok(Node {
             shape,
             node,
@@ -113,7 +112,7 @@ impl Node {
             node: self.node,
             incarnation: self.incarnation,
             calls: self.calls,
-            files: copy_files(alloc, &self.files)?,
+            files: self.files.copy(alloc)?,
             processes: self.processes.copy()?,
             locks: self.locks.copy()?,
             pending: self.pending.copy()?,
@@ -195,8 +194,8 @@ impl Node {
         self.calls = calls_after(self.calls, numbered);
         apply_table(&mut self.processes, &mut self.locks, host, table);
         self.pending.apply(calls);
-        apply_command(&mut self.files, command);
-        clear_owed(&mut self.files, freed.as_slice());
+        self.files.apply_command(command);
+        self.files.clear_owed(freed.as_slice());
     }
 
     /// Makes a planned change, and gives the outcome of its step. Takes no memory.
@@ -254,7 +253,7 @@ impl Node {
         if !self.locks.same(&other.locks) {
             return false;
         }
-        same_files(&self.files, &other.files)
+        self.files.same(&other.files)
     }
 }
 

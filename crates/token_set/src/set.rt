@@ -2,7 +2,7 @@
 //!
 //! Each function here that can fail errs with `AllocError`, where a request for memory was refused,
 //! and changes nothing then.
-ghost use Rattle.std.specs.Prelude.{◌≡◌, ◌≤◌, ◌<◌, true, false, Some, None, IfOk, OnOk, OnErr, IsTrue, ◌↔◌, MatchOption};
+ghost use Rattle.std.specs.Prelude.{◌≡◌, ◌≤◌, ◌<◌, true, false, Some, None, [], IfOk, OnOk, OnErr, IsTrue, ◌↔◌, MatchOption};
 ghost use Rattle.intervals.specs.rule.Bytes.{NoneIn, put};
 ghost use Rattle.intervals.specs.code.Edits.{written};
 ghost use Rattle.model.specs.rule.Locks.{IsRegion};
@@ -182,7 +182,8 @@ fn run_from(levels: &Levels, from: u64) -> Option<(Span, Level)>
 impl TokenSet {
     /// The token without bytes.
     pub fn new(alloc: Global) -> Self
-        ensures { token_of result ≡ no_token }
+        ensures token { token_of result ≡ no_token }
+        ensures runs { result ≡ [] }
     {
         TokenSet {
             levels: Levels::new(alloc),

@@ -8,7 +8,6 @@ ghost use Rattle.node_core.specs.rule.Parts.{node_state, IsCallOf};
 
 use super::Node;
 use crate::file_row::FileRow;
-use crate::files::file_of;
 use crate::open_call::OpenCall;
 use messages::file_number::FileNumber;
 use model::call::CallId;
@@ -63,7 +62,7 @@ impl Node {
         ensures state { state_of result.now ≡ (node_state self.now).files file }
         ensures row { slice_get self.now.files (file - 1) ≡ Some result.now }
     {
-        file_of(&self.files, file)
+        self.files.get(file)
     }
 
     // The number of a file of the shape, as messages have it.

@@ -1,6 +1,4 @@
-use Rattle.std.proofs.Common.{sym, ap, ◌∙◌}
 use Rattle.std.proofs.lemmas.Bool.{iff_false, false≢true}
-use Rattle.node_core.specs.rule.Files.{file_state}
 use Rattle.node_core.proofs.NodeLaws.{same-state, state-same}
 use Rattle.node_core.proofs.node.Node.same.Goals as goal
 
@@ -27,8 +25,6 @@ returns-then-not-same-3 c = rw (← c.self.view_is, ← c.other.view_is) (λ h. 
 
 pub returns : goal.returns
 returns c =
-    let files = c.deref.ensures.value in
-    let others = c.deref-2.ensures.value in
     rw (← c.self.view_is, ← c.other.view_is) (
       λ h. same-state _ _ (record {
         shape = c.same_shape.ensures.0 c.if-not-same_shape.false;
@@ -38,7 +34,7 @@ returns c =
         processes = c.same-2.ensures.0 c.if-not-same-2.false;
         locks = c.same-3.ensures.0 c.if-not-same-3.false;
         pending = c.same.ensures.0 c.if-not-same.false;
-        files = ap file_state (sym files) ∙ c.same_files.ensures.0 h ∙ ap file_state others;
+        files = c.same-4.ensures.0 h;
       }),
-      λ e. c.same_files.ensures.1 (ap file_state files ∙ (state-same _ _ e).files ∙ ap file_state (sym others)),
+      λ e. c.same-4.ensures.1 (state-same _ _ e).files,
     )

@@ -4,13 +4,13 @@ use Rattle.std.proofs.lemmas.List.{take_more}
 use Rattle.node_core.specs.rule.Files.{file_state}
 use Rattle.node_core.specs.code.Plans.{told, files_told}
 use Rattle.node_core.proofs.PlanLaws.{told-push}
-use Rattle.node_core.proofs.files.clear_owed.Goals as goal
+use Rattle.node_core.proofs.file_rows.FileRows.clear_owed.Goals as goal
 
 pub loop-file-preserved : goal.loop-file-preserved
 loop-file-preserved c =
     let i = c.loop-file.file-index in
     let freed = c.args.freed.now in
-    let files = file_state c.args.files.now.items in
+    let files = file_state c.args.self.now in
     let within : i < length freed = omega (arith, c.loop-file-test.true) in
     record {
       state =
