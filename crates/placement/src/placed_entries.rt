@@ -22,7 +22,7 @@ const ENTRIES_AT_ONCE: usize = 16_384;
 /// that went needs less memory: only the call that it makes is kept, in 40 bytes, unless that call stood there too.
 #[derive(Drop)]
 pub struct PlacedEntries {
-    // The calls of the entries that went, in their order, without those that stand at no entry that is left.
+    // The calls of the entries that went, in their order, without those that stood at their own entry and nowhere else.
     made: Made,
     // Whether an entry whose own call stands at it is known to be the last at which that call stands.
     once: bool,
