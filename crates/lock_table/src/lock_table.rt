@@ -24,11 +24,11 @@ mod plans;
 mod searches;
 mod writes;
 
-// A table of fewer blocks than this keeps no index.
-const LEAST_BLOCKS: usize = 2;
+// A table of fewer rows than this keeps no index.
+const LEAST_ROWS: usize = 16;
 
-// The number of rows for which an index has memory, for each block: as many as a block has where rows
-// come in order.
+// The number of rows for which an index has memory, for each block of several: as many as a block has
+// where rows come in order.
 const ROWS_OF_BLOCK: usize = 56;
 
 /// The record locks of one node: what each owner holds at each byte of each file, by mode. `set`,

@@ -1,5 +1,5 @@
 //! The planned changes of the table of a node.
-ghost use Rattle.std.specs.Prelude.{◌≡◌, ◌≤◌, ◌<◌, ◌⊎◌, ⊤, ℕ, nat_le, length, IfOk, IfErr, IfSome, MatchResult, OnOk, Err};
+ghost use Rattle.std.specs.Prelude.{◌≡◌, ◌≤◌, ◌<◌, ◌⊎◌, ⊤, ℕ, nat_le, length, get_or, [], IfOk, IfErr, IfSome, MatchResult, OnOk, Err};
 ghost use Rattle.intervals.specs.rule.Bytes.{put};
 ghost use Rattle.model.specs.rule.Locks.{with_lock, regions};
 ghost use Rattle.model.specs.declared.owner.Owner.{Owner as SomeOwner};
@@ -7,7 +7,7 @@ ghost use Rattle.lock_table.specs.declared.error.LockError.TheVariants.{NoLocks}
 ghost use Rattle.lock_table.specs.code.Rows.{bytes_in, runs_in, held};
 ghost use Rattle.lock_table.specs.code.Blocks.{Fits, HasRoom, IsPlaced, IsRowOf, RunsFit};
 
-use super::{LEAST_BLOCKS, LockEdit, LockTable, ROWS_OF_BLOCK};
+use super::{LEAST_ROWS, LockEdit, LockTable, ROWS_OF_BLOCK};
 use crate::blocks::{RowRoom, row_room};
 use crate::error::LockError;
 use crate::owner_spans::OwnerSpans;
@@ -81,13 +81,25 @@ impl LockTable {
         Ok(Some(row_room(*self.blocks.allocator(), blocks)?))
     }
 
+    // The number of rows for which an index is to have memory: those of the block where there is one,
+    // and else as many as so many blocks have where rows come in order.
+    fn row_count(&self) -> usize
+        ensures { 16 ≤ result → (2 ≤ length self.now.blocks) ⊎ (16 ≤ length (get_or self.now.blocks 0 [])) }
+    {
+        match self.blocks.len() {
+            0 => 0,
+            1 => self.blocks[0].rows().len(),
+            blocks => blocks.saturating_mul(ROWS_OF_BLOCK),
+        }
+    }
+
     // Memory for an index, if the table is to keep one and has none, or one that is small for it.
     fn index_for(&self) -> Result<Option<Box<PageIndex>>, AllocError>
-        ensures { IfOk result (λ index. IfSome index (λ _. 2 ≤ length self.now.blocks)) }
+        ensures { IfOk result (λ index. IfSome index (λ _. (2 ≤ length self.now.blocks) ⊎ (16 ≤ length (get_or self.now.blocks 0 [])))) }
     {
         let alloc = *self.blocks.allocator();
-        let rows = self.blocks.len().saturating_mul(ROWS_OF_BLOCK);
-        if self.blocks.len() < LEAST_BLOCKS || !self.index.is_small(rows) {
+        let rows = self.row_count();
+        if rows < LEAST_ROWS || !self.index.is_small(rows) {
             return Ok(None);
         }
         let index = self.index.with_memory(alloc, rows)?;
