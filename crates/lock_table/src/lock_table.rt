@@ -25,7 +25,7 @@ mod searches;
 mod writes;
 
 // A table of fewer rows than this keeps no index.
-const LEAST_ROWS: usize = 16;
+const LEAST_ROWS: usize = 32;
 
 // The number of rows for which an index has memory, for each block of several: as many as a block has
 // where rows come in order.

@@ -29,7 +29,7 @@ const MOST_DIGITS: u32 = 20;
 
 // The least and the greatest number of an index's sets of owners, for pages, and how many of them it
 // has for each row of its table.
-const LEAST_SETS: usize = 2048;
+const LEAST_SETS: usize = 4096;
 
 const MOST_SETS: usize = 32768;
 

@@ -84,7 +84,7 @@ impl LockTable {
     // The number of rows for which an index is to have memory: those of the block where there is one,
     // and else as many as so many blocks have where rows come in order.
     fn row_count(&self) -> usize
-        ensures { 16 ≤ result → (2 ≤ length self.now.blocks) ⊎ (16 ≤ length (get_or self.now.blocks 0 [])) }
+        ensures { 32 ≤ result → (2 ≤ length self.now.blocks) ⊎ (32 ≤ length (get_or self.now.blocks 0 [])) }
     {
         match self.blocks.len() {
             0 => 0,
@@ -95,7 +95,7 @@ impl LockTable {
 
     // Memory for an index, if the table is to keep one and has none, or one that is small for it.
     fn index_for(&self) -> Result<Option<Box<PageIndex>>, AllocError>
-        ensures { IfOk result (λ index. IfSome index (λ _. (2 ≤ length self.now.blocks) ⊎ (16 ≤ length (get_or self.now.blocks 0 [])))) }
+        ensures { IfOk result (λ index. IfSome index (λ _. (2 ≤ length self.now.blocks) ⊎ (32 ≤ length (get_or self.now.blocks 0 [])))) }
     {
         let alloc = *self.blocks.allocator();
         let rows = self.row_count();
