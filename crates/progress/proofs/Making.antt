@@ -1,6 +1,6 @@
 -- A round is made: its agenda is worked off, in whatever order, while the measure falls.
 use Rattle.std.specs.Prelude.{◌==◌, ◌&&◌, nat_le, nat_lt, not, if◌then◌else◌, filter, map, length, is_some}
-use Rattle.std.proofs.Common.{◌≡◌, ℕ, zero, suc, ◌+◌, ◌≤◌, Bool, true, false, ◌⊎◌, inl, inr, refl, sym, ◌∙◌, ap, subst, arith, List, [], ◌∷◌, ◌++◌, All, Ok, Err}
+use Rattle.std.proofs.Common.{◌≡◌, ℕ, zero, suc, ◌+◌, ◌≤◌, Bool, true, false, ◌⊎◌, inl, inr, refl, sym, ◌∙◌, ap, subst, arith, List, [], ◌∷◌, ◌++◌, All, Contains, Ok, Err}
 use Rattle.std.proofs.lemmas.Bool.{and_parts, or_right, eqb-true, not-true}
 use Rattle.std.proofs.lemmas.List.Elements.{All-nil, All-cons, All-head, All-tail, All-append, All-weaker}
 use Rattle.messages.specs.rule.Shapes.{ShapeFields, IsShape}
@@ -27,9 +27,8 @@ use Rattle.cluster_core.proofs.runs.Runs.{good_run}
 use Rattle.cluster_core.proofs.steps.KnownMessages.{sent_now}
 use Rattle.cluster_core.proofs.steps.NodeTokens.{first_among}
 use Rattle.cluster_core.proofs.tokens.Present.{Was}
-use Rattle.progress.specs.rule.Making.{IsSpent}
 use Rattle.progress.specs.rule.Agenda.{is_due, deliveries, AreOlder, WorksOff}
-use Rattle.progress.proofs.Agenda.{entry_event, Done, nothing_left, one_done}
+use Rattle.progress.proofs.Agenda.{contains_first, entry_event, Done, nothing_left, one_done}
 use Rattle.progress.proofs.Falls.{measure, spare, falls, spares_fewer}
 use Rattle.progress.proofs.Hosted.{all_hosted}
 use Rattle.progress.proofs.Possible.{IsPossible, possible_quiet, Goes, possible_goes}
@@ -157,21 +156,41 @@ module _ (shape : ShapeFields) (is : IsShape shape) (file : ℕ) where
   pub goes : (past : List Entry) (w : WorldState) (event : Event) → Leads (first_world shape) past w → has_file w file ≡ true → w.working file ≡ true → IsPossible file w event → Goes file w event
   goes past w event before there works possible = possible_goes w (good_run shape past w is before).1 (all_hosted shape past w is before) (all_shaped shape past w is before) file there works event possible
 
+  -- events of the agenda happened, and the server refuses one that is left, having spent its numbers
+  pub record Spends (w : WorldState) (events : List Event) : Type 0 where
+    pub entries : List Entry
+    pub world : WorldState
+    pub left : List Event
+    pub works_off : WorksOff file w events entries world left
+    pub event : Event
+    pub is_left : Contains left event
+    pub at : is_some (server_event file event) ≡ true
+    pub refused : next world event ≡ Err Spent
+
   -- all on the agenda happens, or the server has spent its numbers
   abbrev Outcome : WorldState → List Event → Type 0
-  Outcome w events = ((es : List Entry) × (v : WorldState) × WorksOff file w events es v []) ⊎ IsSpent file w
+  Outcome w events = ((es : List Entry) × (v : WorldState) × WorksOff file w events es v []) ⊎ Spends w events
 
-  spent_here : (w : WorldState) (event : Event) → IsPossible file w event → (next w event ≡ Err Spent) × (is_some (server_event file event) ≡ true) → IsSpent file w
-  spent_here w event possible refused = record { entries = []; world = w; leads = refl; quiet = All-nil (λ (x : Entry). IsQuiet x.event); event = event; is_quiet = possible_quiet file w event possible; at = refused.1; refused = refused.0 }
+  spends_here : (w : WorldState) (event : Event) (rest : List Event) → (next w event ≡ Err Spent) × (is_some (server_event file event) ≡ true) → Spends w (event ∷ rest)
+  spends_here w event rest refused = record {
+    entries = [];
+    world = w;
+    left = event ∷ rest;
+    works_off = (refl, refl);
+    event = event;
+    is_left = contains_first event rest;
+    at = refused.1;
+    refused = refused.0;
+  }
 
-  spent_later : (w mid : WorldState) (e : Entry) → next w e.event ≡ Ok (mid, e) → IsQuiet e.event → IsSpent file mid → IsSpent file w
-  spent_later w mid e step quiet s = record {
+  spends_later : (w mid : WorldState) (e : Entry) (event : Event) (rest : List Event) → event ∷ rest ≡ [] ++ e.event ∷ rest → next w e.event ≡ Ok (mid, e) → Spends mid (rest ++ deliveries file w e.sends) → Spends w (event ∷ rest)
+  spends_later w mid e event rest split step s = record {
     entries = e ∷ s.entries;
     world = s.world;
-    leads = (mid, step, s.leads);
-    quiet = All-cons (λ (x : Entry). IsQuiet x.event) e s.entries quiet s.quiet;
+    left = s.left;
+    works_off = ([], rest, mid, split, step, s.works_off);
     event = s.event;
-    is_quiet = s.is_quiet;
+    is_left = s.is_left;
     at = s.at;
     refused = s.refused;
   }
@@ -185,7 +204,7 @@ module _ (shape : ShapeFields) (is : IsShape shape) (file : ℕ) where
         let step : next w q.0.1.event ≡ Ok (q.0.0, q.0.1) = subst (λ (x : Event). next w x ≡ Ok q.0) (sym event_is) q.1 in
         let less = falls_after past w (event ∷ rest) [] rest q.0.0 q.0.1 before possible (ap (λ (x : Event). x ∷ rest) (sym event_is)) step in
         absurd (omega arith)
-    | inr refused ↦ inr (spent_here w event own refused)
+    | inr refused ↦ inr (spends_here w event rest refused)
   ]
     where
       own : IsPossible file w event
@@ -199,7 +218,7 @@ module _ (shape : ShapeFields) (is : IsShape shape) (file : ℕ) where
       Others = (past : List Entry) (w : WorldState) (events : List Event) → Leads (first_world shape) past w → has_file w file ≡ true → w.working file ≡ true → All (IsPossible file w) events → measure file w events ≤ k → Outcome w events
 
       by : Goes file w event → Others → Outcome w (event ∷ rest)
-      by (inr refused) others = inr (spent_here w event own refused)
+      by (inr refused) others = inr (spends_here w event rest refused)
       by (inl q) others =
           more (others (past ++ e ∷ []) mid (rest ++ deliveries file w e.sends) (leads_push (first_world shape) w mid past e before step)
           (ap (λ (s : ShapeFields). is_within s.files file) same.shape ∙ there) (ap (λ (f : ℕ → Bool). f file) same.working ∙ works)
@@ -228,4 +247,4 @@ module _ (shape : ShapeFields) (is : IsShape shape) (file : ℕ) where
 
           more : Outcome mid (rest ++ deliveries file w e.sends) → Outcome w (event ∷ rest)
           more (inl done) = inl (e ∷ done.0, done.1, ([], rest, mid, split, step, done.2))
-          more (inr spent) = inr (spent_later w mid e step quiet spent)
+          more (inr spends) = inr (spends_later w mid e event rest split step spends)

@@ -1,5 +1,5 @@
 -- After every run a round about each file whose server works can be made within its bound, and as many as answer all that no lock blocks, unless the server spends the numbers of its epoch in them.
-use Rattle.std.proofs.Common.{◌≡◌, ℕ, zero, suc, ◌+◌, ◌*◌, ◌≤◌, ◌⊎◌, Bool, true, inl, inr, refl, sym, ◌∙◌, ap, subst, arith, suc-mul, mul-le-mul, mul-le-mul_right, le_of_mul-le-mul_right, List, [], ◌∷◌, ◌++◌, length, All}
+use Rattle.std.proofs.Common.{◌≡◌, ℕ, zero, suc, ◌+◌, ◌*◌, ◌≤◌, ◌⊎◌, Bool, true, inl, inr, refl, sym, ◌∙◌, ap, subst, arith, suc-mul, mul-le-mul, mul-le-mul_right, le_of_mul-le-mul_right, List, [], ◌∷◌, ◌++◌, length, append-nil, All}
 use Rattle.std.proofs.lemmas.List.Elements.{All-nil, All-append, All-contains}
 use Rattle.messages.specs.rule.Shapes.{ShapeFields, IsShape}
 use Rattle.messages.specs.rule.Messages.{is_among, is_within}
@@ -9,13 +9,13 @@ use Rattle.messages.specs.declared.event.Event.{Event}
 use Rattle.token_server.specs.rule.State.{requests}
 use Rattle.cluster_core.specs.rule.World.{WorldState, first_world, has_file}
 use Rattle.cluster_core.specs.rule.Runs.{Leads}
-use Rattle.cluster_core.specs.rule.Rounds.{IsQuiet, IsRound}
+use Rattle.cluster_core.specs.rule.Rounds.{IsRound}
 use Rattle.cluster_core.proofs.rounds.Quiet.{SameMembers}
 use Rattle.cluster_core.proofs.rounds.Stretches.{leads_both, members_stay}
 use Rattle.cluster_core.proofs.runs.Runs.{good_run}
 use Rattle.progress.specs.rule.Agenda.{agenda, deliveries, agenda_with, AreOlder, WorksOff}
 use Rattle.progress.specs.rule.Bounds.{number_of_requests, round_bound, most_entries, entries_of}
-use Rattle.progress.specs.rule.Making.{IsSpent, ARoundCanBeMade, EveryOrderMakesARound, AreWorkedOff, AnswerOthers, AllOthersAreAnswered, AllOthersCanBeAnswered}
+use Rattle.progress.specs.rule.Making.{IsSpent, IsSpentWithin, ARoundCanBeMade, EveryOrderMakesARound, AreWorkedOff, AnswerOthers, AllOthersAreAnswered, AllOthersCanBeAnswered}
 use Rattle.progress.specs.rule.Rounds.{number_of_open_calls, AreRounds}
 use Rattle.progress.proofs.Bounded.{each_is, spare_bounded, measure_bounded}
 use Rattle.progress.proofs.Chains.{rounds_answer}
@@ -23,7 +23,7 @@ use Rattle.progress.proofs.Costs.{most_of}
 use Rattle.progress.proofs.Counting.{stretch_counts}
 use Rattle.progress.proofs.Falls.{measure, spare}
 use Rattle.progress.proofs.Listed.{agenda_possible, is_round}
-use Rattle.progress.proofs.Making.{older_possible, Worked, all_worked, goes, all_done}
+use Rattle.progress.proofs.Making.{older_possible, Worked, all_worked, goes, Spends, all_done}
 use Rattle.progress.proofs.Possible.{IsPossible}
 
 -- all on the agenda may happen, and older messages may come
@@ -73,12 +73,26 @@ record Made (file : ℕ) (w : WorldState) : Type 0 where
   world : WorldState
   off : WorksOff file w (agenda_with file w []) entries world []
 
-made : (shape : ShapeFields) (is : IsShape shape) (file : ℕ) (past : List Entry) (w : WorldState) → Leads (first_world shape) past w → has_file w file ≡ true → w.working file ≡ true → Made file w ⊎ IsSpent file w
-made shape is file past w before there works =
-    elim (all_done shape is file (measure file w (agenda_with file w [])) past w (agenda_with file w []) before there works (all_possible shape is file past w before [] (none_older w)) (omega arith)) [
-      | inl done ↦ inl (record { entries = done.0; world = done.1; off = done.2 })
-      | inr spent ↦ inr spent
-    ]
+module _ (shape : ShapeFields) (is : IsShape shape) (file : ℕ) (past : List Entry) (w : WorldState) (before : Leads (first_world shape) past w) where
+  spent : Spends shape is file w (agenda_with file w []) → IsSpent file w
+  spent s = record {
+    entries = s.entries;
+    world = s.world;
+    left = s.left;
+    works_off = subst (λ (events : List Event). WorksOff file w events s.entries s.world s.left) (append-nil (agenda file w)) s.works_off;
+    few = within_bound shape is file past w before [] (none_older w) s.entries s.world s.left s.works_off;
+    event = s.event;
+    is_left = s.is_left;
+    at = s.at;
+    refused = s.refused;
+  }
+
+  made : has_file w file ≡ true → w.working file ≡ true → Made file w ⊎ IsSpent file w
+  made there works =
+      elim (all_done shape is file (measure file w (agenda_with file w [])) past w (agenda_with file w []) before there works (all_possible shape is file past w before [] (none_older w)) (omega arith)) [
+        | inl done ↦ inl (record { entries = done.0; world = done.1; off = done.2 })
+        | inr spends ↦ inr (spent spends)
+      ]
 
 pub round_can_be_made : ARoundCanBeMade
 round_can_be_made shape past w file is before there works = elim (made shape is file past w before there works) [
@@ -87,19 +101,6 @@ round_can_be_made shape past w file is before there works = elim (made shape is 
       inl (m.entries, m.world, all.1 refl, all.0)
   | inr spent ↦ inr spent
 ]
-
--- numbers that are spent after a round are spent in it and what follows
-spent_after : (file : ℕ) (w mid : WorldState) (es : List Entry) → IsRound file w es mid → IsSpent file mid → IsSpent file w
-spent_after file w mid es round s = record {
-  entries = es ++ s.entries;
-  world = s.world;
-  leads = leads_both w mid s.world es s.entries round.leads s.leads;
-  quiet = All-append (λ (e : Entry). IsQuiet e.event) es s.entries round.quiet s.quiet;
-  event = s.event;
-  is_quiet = s.is_quiet;
-  at = s.at;
-  refused = s.refused;
-}
 
 -- more requests and more calls have a greater bound
 bound_grows : (nodes r q c d : ℕ) → r ≤ q → c ≤ d → round_bound nodes r c ≤ round_bound nodes q d
@@ -126,9 +127,17 @@ module _ (shape : ShapeFields) (is : IsShape shape) (file : ℕ) (past : List En
   fewer_open = elim (stretch_counts es w mid round.leads round.quiet) [ inl silent ↦ silent.1 | inr fewer ↦ omega arith ]
 
 module _ (shape : ShapeFields) (is : IsShape shape) (file older : ℕ) where
-  -- rounds that were made by their agendas are within the bound of so many requests
-  rounds_within : (nodes most calls : ℕ) (rounds : List (List Entry)) (past : List Entry) (w v : WorldState) → Leads (first_world shape) past w → has_file w file ≡ true → w.working file ≡ true → w.shape.nodes ≡ nodes → number_of_open_calls w + older ≤ calls → number_of_requests w file + length rounds * calls ≤ most → AreWorkedOff file older w rounds v → AreRounds file w rounds v × (entries_of rounds ≤ length rounds * round_bound nodes most calls)
-  rounds_within nodes most calls [] past w v before there works same few fit off = (off, omega arith)
+  -- rounds that were made by their agendas are within the bound of so many requests and calls, and leave no more of them
+  record Within (nodes most calls : ℕ) (rounds : List (List Entry)) (w v : WorldState) : Type 0 where
+    are : AreRounds file w rounds v
+    few : entries_of rounds ≤ length rounds * round_bound nodes most calls
+    nodes_are : v.shape.nodes ≡ nodes
+    few_calls : number_of_open_calls v + older ≤ calls
+    few_requests : number_of_requests v file ≤ most
+
+  rounds_within : (nodes most calls : ℕ) (rounds : List (List Entry)) (past : List Entry) (w v : WorldState) → Leads (first_world shape) past w → has_file w file ≡ true → w.working file ≡ true → w.shape.nodes ≡ nodes → number_of_open_calls w + older ≤ calls → number_of_requests w file + length rounds * calls ≤ most → AreWorkedOff file older w rounds v → Within nodes most calls rounds w v
+  rounds_within nodes most calls [] past w v before there works same few fit off =
+      subst (λ (x : WorldState). Within nodes most calls [] w x) off (record { are = refl; few = omega arith; nodes_are = same; few_calls = few; few_requests = omega (arith, fit) })
   rounds_within nodes most calls (es ∷ rounds) past w v before there works same few fit off =
       finish (rounds_within nodes most calls rounds (past ++ es) mid v (before_then shape is file past w before there works es mid coming off.2 off.4) (there_then shape is file past w before there works es mid coming off.2 off.4) (works_then shape is file past w before there works es mid coming off.2 off.4) nodes_then few_then fit_then off.5)
     where
@@ -168,8 +177,10 @@ module _ (shape : ShapeFields) (is : IsShape shape) (file older : ℕ) where
       all : suc (length rounds) * round_bound nodes most calls ≡ length rounds * round_bound nodes most calls + round_bound nodes most calls
       all = suc-mul (length rounds) (round_bound nodes most calls)
 
-      finish : AreRounds file mid rounds v × (entries_of rounds ≤ length rounds * round_bound nodes most calls) → AreRounds file w (es ∷ rounds) v × (entries_of (es ∷ rounds) ≤ suc (length rounds) * round_bound nodes most calls)
-      finish rest = let total = rest.1 in ((mid, here, rest.0), omega (arith, total, long, grows, bound_is, all))
+      finish : Within nodes most calls rounds mid v → Within nodes most calls (es ∷ rounds) w v
+      finish rest =
+          let total = rest.few in
+          record { are = (mid, here, rest.are); few = omega (arith, total, long, grows, bound_is, all); nodes_are = rest.nodes_are; few_calls = rest.few_calls; few_requests = rest.few_requests }
 
   both : (past : List Entry) (rounds : List (List Entry)) (w v : WorldState) → Leads (first_world shape) past w → has_file w file ≡ true → w.working file ≡ true → AreWorkedOff file older w rounds v → length rounds ≡ number_of_open_calls w + 2 → AreRounds file w rounds v × AnswerOthers file older w rounds v
   both past rounds w v before there works off long =
@@ -178,29 +189,76 @@ module _ (shape : ShapeFields) (is : IsShape shape) (file older : ℕ) where
       let most = number_of_requests w file + (n + 2) * c in
       let fit : number_of_requests w file + length rounds * c ≤ most = subst (λ (k : ℕ). number_of_requests w file + k * c ≤ most) (sym long) (omega arith) in
       let within = rounds_within w.shape.nodes most c rounds past w v before there works refl (omega arith) fit off in (
-        within.0,
+        within.are,
         (
-          rounds_answer shape past rounds w v file is before works within.0 (omega arith),
-          subst (λ (k : ℕ). entries_of rounds ≤ k * round_bound w.shape.nodes most c) long within.1,
+          rounds_answer shape past rounds w v file is before works within.are (omega arith),
+          subst (λ (k : ℕ). entries_of rounds ≤ k * round_bound w.shape.nodes most c) long within.few,
         ),
       )
 
 module _ (shape : ShapeFields) (is : IsShape shape) (file : ℕ) where
+  -- fewer than so many rounds are made, and in the next one the server has spent its numbers
+  record SpendsAfter (k : ℕ) (w : WorldState) : Type 0 where
+    rounds : List (List Entry)
+    world : WorldState
+    work_off : AreWorkedOff file 0 w rounds world
+    fewer : length rounds + 1 ≤ k
+    spent : IsSpent file world
+
   -- so many rounds can be made
   abbrev AreMade : ℕ → WorldState → Type 0
-  AreMade k w = ((rounds : List (List Entry)) × (v : WorldState) × AreWorkedOff file 0 w rounds v × (length rounds ≡ k)) ⊎ IsSpent file w
+  AreMade k w = ((rounds : List (List Entry)) × (v : WorldState) × AreWorkedOff file 0 w rounds v × (length rounds ≡ k)) ⊎ SpendsAfter k w
 
   rounds_made : (k : ℕ) (past : List Entry) (w : WorldState) → Leads (first_world shape) past w → has_file w file ≡ true → w.working file ≡ true → AreMade k w
   rounds_made zero past w before there works = inl ([], w, refl, refl)
   rounds_made (suc k) past w before there works = by (made shape is file past w before there works) (rounds_made k)
     where
       by : Made file w ⊎ IsSpent file w → ((past : List Entry) (w : WorldState) → Leads (first_world shape) past w → has_file w file ≡ true → w.working file ≡ true → AreMade k w) → AreMade (suc k) w
-      by (inr spent) others = inr spent
+      by (inr spent) others = inr (record { rounds = []; world = w; work_off = refl; fewer = omega arith; spent = spent })
       by (inl m) others = more (others (past ++ m.entries) m.world (before_then shape is file past w before there works m.entries m.world [] (none_older w) m.off) (there_then shape is file past w before there works m.entries m.world [] (none_older w) m.off) (works_then shape is file past w before there works m.entries m.world [] (none_older w) m.off))
         where
           more : AreMade k m.world → AreMade (suc k) w
-          more (inr spent) = inr (spent_after file w m.world m.entries (round shape is file past w before there works m.entries m.world [] (none_older w) m.off) spent)
+          more (inr s) =
+              let less = s.fewer in
+              inr (record { rounds = m.entries ∷ s.rounds; world = s.world; work_off = (m.world, [], none_older w, omega arith, m.off, s.work_off); fewer = omega arith; spent = s.spent })
           more (inl rest) = inl (m.entries ∷ rest.0, rest.1, (m.world, [], none_older w, omega arith, m.off, rest.2), (let long = rest.3 in omega arith))
+
+  -- all of it is within the bound of so many rounds
+  spent_within : (k : ℕ) (past : List Entry) (w : WorldState) → Leads (first_world shape) past w → has_file w file ≡ true → w.working file ≡ true → SpendsAfter k w → IsSpentWithin k file w
+  spent_within k past w before there works s = record { rounds = s.rounds; world = s.world; work_off = s.work_off; fewer = s.fewer; spent = s.spent; few = few }
+    where
+      c : ℕ
+      c = number_of_open_calls w
+
+      most : ℕ
+      most = number_of_requests w file + k * c
+
+      bound : ℕ
+      bound = round_bound w.shape.nodes most c
+
+      fit : number_of_requests w file + length s.rounds * c ≤ most
+      fit =
+          let less = s.fewer in
+          let times : length s.rounds * c ≤ k * c = mul-le-mul_right c (omega arith) in
+          omega (arith, times)
+
+      within : Within shape is file 0 w.shape.nodes most c s.rounds w s.world
+      within = rounds_within shape is file 0 w.shape.nodes most c s.rounds past w s.world before there works refl (omega arith) fit s.work_off
+
+      front : length s.spent.entries ≤ bound
+      front =
+          let long : length s.spent.entries ≤ round_bound s.world.shape.nodes (number_of_requests s.world file) (number_of_open_calls s.world + 0) = s.spent.few in
+          let here : length s.spent.entries ≤ round_bound w.shape.nodes (number_of_requests s.world file) (number_of_open_calls s.world + 0) = subst (λ (n : ℕ). length s.spent.entries ≤ round_bound n (number_of_requests s.world file) (number_of_open_calls s.world + 0)) within.nodes_are long in
+          let grows = bound_grows w.shape.nodes (number_of_requests s.world file) most (number_of_open_calls s.world + 0) c within.few_requests within.few_calls in
+          omega (arith, here, grows)
+
+      few : entries_of s.rounds + length s.spent.entries ≤ k * bound
+      few =
+          let less = s.fewer in
+          let total = within.few in
+          let times : suc (length s.rounds) * bound ≤ k * bound = mul-le-mul_right bound (omega arith) in
+          let one : suc (length s.rounds) * bound ≡ length s.rounds * bound + bound = suc-mul (length s.rounds) bound in
+          omega (arith, total, front, times, one)
 
 pub all_others_are_answered : AllOthersAreAnswered
 all_others_are_answered shape past rounds w v file most is before there works off long = (both shape is file most past rounds w v before there works off long).1
@@ -209,5 +267,5 @@ pub all_others_can_be_answered : AllOthersCanBeAnswered
 all_others_can_be_answered shape past w file is before there works =
     elim (rounds_made shape is file (number_of_open_calls w + 2) past w before there works) [
       | inl x ↦ let all = both shape is file 0 past x.0 w x.1 before there works x.2 x.3 in inl (x.0, x.1, all.0, x.3, all.1)
-      | inr spent ↦ inr spent
+      | inr s ↦ inr (spent_within shape is file (number_of_open_calls w + 2) past w before there works s)
     ]

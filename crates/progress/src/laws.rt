@@ -27,7 +27,8 @@ pub fn every_order_makes_a_round()
 {}
 
 /// After any run a round about a file of the cluster can be made, if the file's server works, within so many events,
-/// where no older message comes, unless the server spends the numbers of its epoch for a node in it.
+/// where no older message comes. Else some of these events happen, no more than that bound has, and then the server
+/// refuses another of them: it has spent the numbers of its epoch for a node.
 pub fn a_round_can_be_made()
     ensures { ARoundCanBeMade }
 {}
@@ -41,7 +42,8 @@ pub fn all_others_are_answered()
 {}
 
 /// After any run n + 2 such rounds about a file of the cluster can be made, where n calls are open, if the file's
-/// server works, unless the server spends the numbers of its epoch for a node in them.
+/// server works, within their bound. Else fewer are made, and in the next one the server turns out to have spent the
+/// numbers of its epoch for a node, all within that bound.
 pub fn all_others_can_be_answered()
     ensures { AllOthersCanBeAnswered }
 {}

@@ -1,5 +1,5 @@
 -- Rounds are made in whatever order their events happen, within a bound, unless a server spends the numbers of an epoch in them.
-use Rattle.std.specs.Prelude.{◌≡◌, ◌⊎◌, ◌+◌, ◌≤◌, ℕ, true, List, [], ◌∷◌, length, All, Contains, is_some, Ok, Err}
+use Rattle.std.specs.Prelude.{◌≡◌, ◌⊎◌, ◌+◌, ◌≤◌, ℕ, true, List, [], ◌∷◌, length, Contains, is_some, Ok, Err}
 use Rattle.messages.specs.rule.Shapes.{ShapeFields, IsShape}
 use Rattle.messages.specs.declared.message.Message.{Message}
 use Rattle.messages.specs.declared.event.Event.{Event}
@@ -9,19 +9,20 @@ use Rattle.cluster_core.specs.rule.Actors.{server_event}
 use Rattle.cluster_core.specs.rule.World.{WorldState, first_world, has_file}
 use Rattle.cluster_core.specs.rule.Next.{next}
 use Rattle.cluster_core.specs.rule.Runs.{Leads}
-use Rattle.cluster_core.specs.rule.Rounds.{IsQuiet, IsRound}
-use Rattle.progress.specs.rule.Agenda.{agenda_with, AreOlder, WorksOff}
+use Rattle.cluster_core.specs.rule.Rounds.{IsRound}
+use Rattle.progress.specs.rule.Agenda.{agenda, agenda_with, AreOlder, WorksOff}
 use Rattle.progress.specs.rule.Bounds.{number_of_requests, most_entries, rounds_bound, entries_of}
 use Rattle.progress.specs.rule.Rounds.{number_of_open_calls, AllAreBlocked, AreRounds}
 
--- after a stretch in which nothing fails and nobody calls the server of the file refuses an event: it has spent the numbers of its epoch for a node
+-- The server of the file has spent the numbers of its epoch for a node before a round is made: once events of the round's agenda happened, each once, and no older message, and they are no more than the bound of a round says, the server refuses an event that is left on the agenda
 pub record IsSpent (file : ℕ) (w : WorldState) : Type 0 where
   pub entries : List Entry
   pub world : WorldState
-  pub leads : Leads w entries world
-  pub quiet : All (λ e. IsQuiet e.event) entries
+  pub left : List Event
+  pub works_off : WorksOff file w (agenda file w) entries world left
+  pub few : length entries ≤ most_entries w file 0
   pub event : Event
-  pub is_quiet : IsQuiet event
+  pub is_left : Contains left event
   pub at : is_some (server_event file event) ≡ true
   pub refused : next world event ≡ Err Spent
 
@@ -29,7 +30,7 @@ pub record IsSpent (file : ℕ) (w : WorldState) : Type 0 where
 abbrev pub CanBeMade : ℕ → WorldState → Type 0
 CanBeMade file w = (es : List Entry) × (v : WorldState) × IsRound file w es v × (length es ≤ most_entries w file 0)
 
--- after any run a round about each file whose server works can be made within its bound, unless the server spends the numbers of its epoch in it
+-- after any run a round about each file whose server works can be made within its bound, unless the server turns out to have spent its numbers before that
 abbrev pub ARoundCanBeMade : Type 0
 ARoundCanBeMade =
     (shape : ShapeFields) (past : List Entry) (w : WorldState) (file : ℕ)
@@ -79,7 +80,16 @@ AllOthersAreAnswered =
     → length rounds ≡ number_of_open_calls w + 2
     → AnswerOthers file most w rounds v
 
--- after any run n + 2 such rounds about each file whose server works can be made, where n calls are open, unless the server spends the numbers of its epoch in them
+-- fewer than k rounds are made, one behind the other, each by its agenda, and in the next one the server turns out to have spent its numbers, all within the bound of k rounds
+pub record IsSpentWithin (k file : ℕ) (w : WorldState) : Type 0 where
+  pub rounds : List (List Entry)
+  pub world : WorldState
+  pub work_off : AreWorkedOff file 0 w rounds world
+  pub fewer : length rounds + 1 ≤ k
+  pub spent : IsSpent file world
+  pub few : entries_of rounds + length spent.entries ≤ rounds_bound k w.shape.nodes (number_of_requests w file) (number_of_open_calls w)
+
+-- after any run n + 2 such rounds about each file whose server works can be made, where n calls are open, unless the server turns out to have spent its numbers before that
 abbrev pub AllOthersCanBeAnswered : Type 0
 AllOthersCanBeAnswered =
     (shape : ShapeFields) (past : List Entry) (w : WorldState) (file : ℕ)
@@ -87,4 +97,4 @@ AllOthersCanBeAnswered =
     → Leads (first_world shape) past w
     → has_file w file ≡ true
     → w.working file ≡ true
-    → ((rounds : List (List Entry)) × (v : WorldState) × AreRounds file w rounds v × (length rounds ≡ number_of_open_calls w + 2) × AnswerOthers file 0 w rounds v) ⊎ IsSpent file w
+    → ((rounds : List (List Entry)) × (v : WorldState) × AreRounds file w rounds v × (length rounds ≡ number_of_open_calls w + 2) × AnswerOthers file 0 w rounds v) ⊎ IsSpentWithin (number_of_open_calls w + 2) file w
