@@ -20,7 +20,7 @@ use Rattle.node_core.specs.rule.Node.{node_rule}
 use Rattle.token_server.specs.declared.event.ServerEvent.TheVariants as server
 use Rattle.token_server.specs.rule.Server.{server_rule}
 use Rattle.cluster_core.specs.rule.Journals.{RunFields, GoesOn, delivery, events_of}
-use Rattle.cluster_core.specs.rule.Next.{delivered, is_fenced, is_known, is_stopped, next, taken}
+use Rattle.cluster_core.specs.rule.Next.{delivered, is_fenced, is_known, is_stopped, kept_next, next, taken}
 use Rattle.cluster_core.specs.rule.Parts.{world_state}
 use Rattle.cluster_core.specs.rule.Runs.{Leads}
 use Rattle.cluster_core.specs.rule.World.{WorldState, journal_limit}
@@ -28,7 +28,7 @@ use Rattle.cluster_core.specs.rule.Rounds.{IsQuiet}
 use Rattle.cluster_core.proofs.runs.JournalRuns.{entry_event}
 use Rattle.cluster_core.proofs.steps.CertainRefusals.{node_refused, server_refused}
 use Rattle.cluster_core.proofs.steps.Steps.{next_step, kept_taken}
-use Rattle.player.specs.rule.Rounds.{IsQuietRun, Refuses}
+use Rattle.player.specs.rule.Rounds.{IsQuietRun}
 use Rattle.player.specs.code.Rounds.{GoesBy, GoesQuietly}
 
 pub leads_append : (w v u : WorldState) (es fs : List Entry) → Leads w es v → Leads v fs u → Leads w (es ++ fs) u
@@ -121,6 +121,6 @@ fenced_delivery w None h = absurd (unsent (nat_le journal_limit w.length) h)
     unsent true g = absurd (cc)
     unsent false g = absurd (cc)
 
--- a refusal of a message that was sent is one of a quiet event
-pub refused_delivery : (w : WorldState) (o : Option Message) (m : Message) (refusal : Refused) → o ≡ Some m → delivery w o ≡ Err refusal → Refuses w refusal
-refused_delivery w o m refusal is h = (Deliver m, tt, subst (λ (x : Option Message). delivery w x ≡ Err refusal) is h)
+-- a refusal of a message that was sent is one of its delivery
+pub refused_delivery : (w : WorldState) (o : Option Message) (m : Message) (refusal : Refused) → o ≡ Some m → delivery w o ≡ Err refusal → kept_next w (Deliver m) ≡ Err refusal
+refused_delivery w o m refusal is h = subst (λ (x : Option Message). delivery w x ≡ Err refusal) is h

@@ -1,11 +1,13 @@
 -- How rounds end.
-use Rattle.std.specs.Prelude.{◌≡◌, List, [], ◌∷◌, ◌++◌, Contains, drop, length, refl}
-use Rattle.std.proofs.Common.{sym, ap, ◌∙◌, subst, append_assoc}
+use Rattle.std.specs.Prelude.{◌≡◌, ◌≢◌, List, [], ◌∷◌, ◌++◌, Contains, drop, length, refl}
+use Rattle.std.proofs.Common.{inl, inr, sym, ap, ◌∙◌, subst, append_assoc}
 use Rattle.std.proofs.lemmas.List.{map-append}
-use Rattle.std.proofs.lemmas.List.Elements.{All-nil, Contains-append_left}
+use Rattle.std.proofs.lemmas.List.Elements.{All-contains, All-nil, Contains-append_left}
 use Rattle.messages.specs.declared.entry.Entry.{Entry}
 use Rattle.messages.specs.declared.event.Event.{Event}
+use Rattle.messages.specs.declared.event.Event.TheVariants.{Deliver}
 use Rattle.messages.specs.declared.refusal.Refused.{Refused}
+use Rattle.messages.specs.declared.refusal.Refused.TheVariants.{NoMemory}
 use Rattle.cluster_core.specs.rule.Journals.{RunFields, events_of}
 use Rattle.cluster_core.specs.rule.Parts.{world_state}
 use Rattle.cluster_core.specs.rule.Runs.{Leads}
@@ -17,9 +19,9 @@ use Rattle.player.specs.code.Parts.{PlayerParts, progress}
 use Rattle.player.specs.rule.Played.{PlayedState, played_of}
 use Rattle.player.specs.declared.calm.Calm.{Calm}
 use Rattle.player.specs.declared.calm.Calm.TheVariants as calm
-use Rattle.player.specs.rule.Rounds.{NoneOpen, Refuses, EndsAs, EndsCalm}
+use Rattle.player.specs.rule.Rounds.{NoneOpen, IsDue, EndsRefused, EndsAs, EndsCalm}
 use Rattle.player.specs.code.Due.{AreDue}
-use Rattle.player.specs.code.Rounds.{Arrives, EndsInRound, GoesByRound, GoesCalm, GoesQuietly, TakesAll}
+use Rattle.player.specs.code.Rounds.{Arrives, EndsInRound, GoesByRound, GoesCalm, GoesQuietly, Stops, StopsAmong, StopsAtSent, TakesAll}
 use Rattle.player.proofs.QuietRuns.{goes_append, leads_append, quiet_append}
 use Rattle.player.proofs.NoneStuck.{calmed_none_stuck}
 
@@ -78,8 +80,48 @@ ends_quietly r s ends = (
 pub ends_none_open : (r s : RunFields) → GoesQuietly r s → NoneOpen (world_state s.world) → GoesCalm r s calm.NoneOpen
 ends_none_open r s goes none = (goes.0, goes.1.entries, record { run = goes.1.run; ends = none })
 
-pub ends_refused : (r s : RunFields) (refusal : Refused) → GoesQuietly r s → Refuses (world_state s.world) refusal → GoesCalm r s (calm.Refused refusal)
-ends_refused r s refusal goes refuses = (goes.0, goes.1.entries, record { run = goes.1.run; ends = refuses })
+-- a delivery that is refused ends what went on quietly up to it
+pub stops_sent : (r s : RunFields) (refusal : Refused) → GoesQuietly r s → StopsAtSent s refusal → Stops r s refusal
+stops_sent r s refusal goes stops ne =
+    let at = stops ne in (
+      goes.0,
+      goes.1,
+      record { before = []; front = goes.0; split = refl; begun = world_state r.world; leads = refl; leads_on = goes.1.run.leads; event = Deliver at.0; owed = inr at.1; refused = at.2 },
+    )
+
+-- so does an event that is due
+pub stops_due : (r s : RunFields) (events : List Event) (refusal : Refused) → AreDue (world_state r.world) events → GoesQuietly r s → StopsAmong events s refusal → Stops r s refusal
+stops_due r s events refusal due goes stops ne =
+    let at = stops ne in (
+      goes.0,
+      goes.1,
+      record { before = []; front = goes.0; split = refl; begun = world_state r.world; leads = refl; leads_on = goes.1.run.leads; event = at.0; owed = inl (All-contains (IsDue (world_state r.world)) events at.0 due.each at.1); refused = at.2 },
+    )
+
+refused_behind : (w v u : WorldState) (refusal : Refused) (es fs : List Entry) → Leads w es v → EndsRefused refusal v fs u → EndsRefused refusal w (es ++ fs) u
+refused_behind w v u refusal es fs led ends = record {
+  before = es ++ ends.before;
+  front = ends.front;
+  split = ap (λ (l : List Entry). es ++ l) ends.split ∙ sym (append_assoc es ends.before ends.front);
+  begun = ends.begun;
+  leads = leads_append w v ends.begun es ends.before led ends.leads;
+  leads_on = ends.leads_on;
+  event = ends.event;
+  owed = ends.owed;
+  refused = ends.refused;
+}
+
+-- what went before
+pub stops_behind : (r s t : RunFields) (refusal : Refused) → GoesQuietly r s → Stops s t refusal → Stops r t refusal
+stops_behind r s t refusal goes stops ne =
+    let at = stops ne in (
+      goes.0 ++ at.0,
+      goes_append r s t goes.0 at.0 goes.1 at.1,
+      refused_behind (world_state r.world) (world_state s.world) (world_state t.world) refusal goes.0 at.0 goes.1.run.leads at.2,
+    )
+
+pub ends_refused : (r s : RunFields) (refusal : Refused) → refusal ≢ NoMemory → Stops r s refusal → GoesCalm r s (calm.Refused refusal)
+ends_refused r s refusal ne stops = let at = stops ne in (at.0, at.1.entries, record { run = at.1.run; ends = at.2 })
 
 -- the entries of the last round behind those before it
 pub last_entries : (r s : RunFields) → (round : GoesByRound r s) → drop (length r.entries) s.entries ≡ round.0
@@ -125,7 +167,7 @@ calm_behind r s t end goes rounds = (
   where
     behind : (its : Calm) → EndsAs its (world_state s.world) rounds.0 (world_state t.world) → EndsAs its (world_state r.world) (goes.0 ++ rounds.0) (world_state t.world)
     behind calm.NoneOpen ends = ends
-    behind (calm.Refused refusal) ends = ends
+    behind (calm.Refused refusal) ends = refused_behind (world_state r.world) (world_state s.world) (world_state t.world) refusal goes.0 rounds.0 goes.1.run.leads ends
     behind calm.Silent ends = record {
       before = goes.0 ++ ends.before;
       first = ends.first;

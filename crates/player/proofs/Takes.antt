@@ -1,16 +1,20 @@
 -- Events that a run takes in order.
-use Rattle.std.specs.Prelude.{◌≡◌, ℕ, ◌+◌, ◌<◌, ◌≤◌, List, [], ◌∷◌, ◌++◌, length, get_or, take, refl}
+use Rattle.std.specs.Prelude.{◌≡◌, ◌≢◌, ℕ, ◌+◌, ◌<◌, ◌≤◌, List, [], ◌∷◌, ◌++◌, length, get_or, take, refl, Contains, Err}
 use Rattle.std.proofs.Common.{sym, ap, ◌∙◌, subst, arith}
 use Rattle.std.proofs.lemmas.List.{length-append, map-append, take_all, take_more}
+use Rattle.std.proofs.lemmas.List.Elements.{Contains-get_or}
 use Rattle.messages.specs.declared.entry.Entry.{Entry}
 use Rattle.messages.specs.declared.event.Event.{Event}
 use Rattle.messages.specs.declared.message.Message.{Message}
 use Rattle.cluster_core.specs.rule.Journals.{RunFields, GoesOn, events_of}
+use Rattle.messages.specs.declared.refusal.Refused.{Refused}
+use Rattle.messages.specs.declared.refusal.Refused.TheVariants.{NoMemory}
+use Rattle.cluster_core.specs.rule.Next.{kept_next}
 use Rattle.cluster_core.specs.rule.Parts.{world_state}
 use Rattle.cluster_core.specs.rule.Rounds.{IsQuiet}
 use Rattle.cluster_core.proofs.runs.JournalRuns.{entry_event}
 use Rattle.cluster_core.proofs.steps.Steps.{kept_taken}
-use Rattle.player.specs.code.Rounds.{ArriveUpTo, GoesBy, TakesAll}
+use Rattle.player.specs.code.Rounds.{ArriveUpTo, GoesBy, StopsAmong, TakesAll}
 use Rattle.player.proofs.Arrivals.{takes_one}
 use Rattle.player.proofs.QuietRuns.{goes_append, goes_none, goes_one, quiet_stays}
 
@@ -46,3 +50,11 @@ takes_more r events i s t event copy lt is same quiet so_far went =
 
 pub takes_all : (r : RunFields) (events : List Event) (i : ℕ) (s : RunFields) → length events ≤ i → TakesUpTo r events i s → TakesAll r events s
 takes_all r events i s past so_far = (so_far.es, so_far.goes, so_far.so_far ∙ take_all i events past, so_far.arrive)
+
+-- the next one of the events is refused
+pub takes_stop : (s t : RunFields) (events : List Event) (i : ℕ) (event copy : Event) (refusal : Refused) → i < length events → event ≡ get_or events i event → copy ≡ event → t ≡ s → (refusal ≢ NoMemory → kept_next (world_state s.world) copy ≡ Err refusal) → StopsAmong events t refusal
+takes_stop s t events i event copy refusal lt is same rests refused ne = (
+  event,
+  subst (λ (x : Event). Contains events x) (sym is) (Contains-get_or events i event lt),
+  subst (λ (r : RunFields). kept_next (world_state r.world) event ≡ Err refusal) (sym rests) (subst (λ (x : Event). kept_next (world_state s.world) x ≡ Err refusal) same (refused ne)),
+)

@@ -3,7 +3,7 @@ ghost use Rattle.std.specs.Prelude.{◌≡◌, ◌<◌, ◌≤◌, All, false, t
 ghost use Rattle.cluster_core.specs.rule.Parts.{world_state};
 ghost use Rattle.cluster_core.specs.rule.World.{journal_limit};
 ghost use Rattle.cluster_core.specs.rule.Rounds.{AnswersNone, IsQuiet};
-ghost use Rattle.player.specs.code.Rounds.{Arrives, GoesByRound, GoesCalm, GoesQuietly, PassesAt, Stops, TakesAll};
+ghost use Rattle.player.specs.code.Rounds.{Arrives, GoesByRound, GoesCalm, GoesQuietly, PassesAt, Stops, StopsAmong, StopsAtSent, TakesAll};
 ghost use Rattle.player.specs.rule.Rounds.{NoneOpen};
 
 use crate::calm::Calm;
@@ -23,7 +23,7 @@ pub(crate) fn round(run: &mut Run, alloc: Global, shape: Shape) -> Result<(), Re
     requires { run.old.world.shape ≡ shape }
     ensures goes { GoesQuietly run.old run.new }
     ensures round { OnOk result (GoesByRound run.old run.new) }
-    ensures stops { IfErr result (Stops run.new) }
+    ensures stops { IfErr result (Stops run.old run.new) }
 {
     let first = run.world().sent().len();
     let events = due(alloc, run.world(), shape)?;
@@ -36,7 +36,7 @@ fn take_all(run: &mut Run, alloc: Global, events: &[Event]) -> Result<(), Refuse
     requires { All IsQuiet events.now }
     ensures goes { GoesQuietly run.old run.new }
     ensures took { OnOk result (TakesAll run.old events.now run.new) }
-    ensures stops { IfErr result (Stops run.new) }
+    ensures stops { IfErr result (StopsAmong events.now run.new) }
 {
     for event in events {
         run.take(alloc, event.copy()?)?;
@@ -48,7 +48,7 @@ fn take_all(run: &mut Run, alloc: Global, events: &[Event]) -> Result<(), Refuse
 fn deliver_from(run: &mut Run, alloc: Global, first: usize) -> Result<(), Refused>
     ensures goes { GoesQuietly run.old run.new }
     ensures arrives { OnOk result (Arrives run.old first run.new) }
-    ensures stops { IfErr result (Stops run.new) }
+    ensures stops { IfErr result (StopsAtSent run.new) }
 {
     let mut place = first;
     while place < run.world().sent().len() {
@@ -66,7 +66,7 @@ pub(crate) fn deliver(run: &mut Run, alloc: Global, place: usize) -> Result<(), 
     requires { place < length run.old.world.sent }
     ensures goes { GoesQuietly run.old run.new }
     ensures passes { OnOk result (PassesAt run.old place run.new) }
-    ensures stops { IfErr result (Stops run.new) }
+    ensures stops { IfErr result (StopsAtSent run.new) }
 {
     match run.deliver(alloc, place) {
         Ok(()) => Ok(()),
@@ -113,7 +113,7 @@ pub(crate) fn rounds(run: &mut Run, alloc: Global, shape: Shape) -> Result<Calm,
     requires { run.old.world.shape ≡ shape }
     ensures goes { GoesQuietly run.old run.new }
     ensures ends { IfOk result (GoesCalm run.old run.new) }
-    ensures stops { IfErr result (Stops run.new) }
+    ensures stops { IfErr result (Stops run.old run.new) }
 {
     if !has_open(run.world(), shape) {
         return Ok(Calm::NoneOpen);

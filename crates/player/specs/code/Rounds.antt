@@ -1,18 +1,18 @@
 -- Runs that go on by rounds, as the code makes them.
-use Rattle.std.specs.Prelude.{◌≡◌, ◌⊎◌, ◌≢◌, ℕ, ◌<◌, ◌≤◌, true, List, ◌++◌, length, slice_get, slice_index_or, Some}
+use Rattle.std.specs.Prelude.{◌≡◌, ◌⊎◌, ◌≢◌, ℕ, ◌<◌, ◌≤◌, true, List, ◌++◌, length, slice_get, slice_index_or, Some, Err, Contains}
 use Rattle.messages.specs.declared.entry.Entry.{Entry}
 use Rattle.messages.specs.declared.event.Event.{Event}
 use Rattle.messages.specs.declared.event.Event.TheVariants.{Deliver}
 use Rattle.messages.specs.declared.message.Message.{Message}
 use Rattle.messages.specs.declared.refusal.Refused.{Refused}
 use Rattle.messages.specs.declared.refusal.Refused.TheVariants.{NoMemory}
-use Rattle.messages.specs.rule.Messages.{addressee}
+use Rattle.messages.specs.rule.Messages.{addressee, is_among}
 use Rattle.cluster_core.specs.rule.Journals.{RunFields, GoesOn, events_of}
-use Rattle.cluster_core.specs.rule.Next.{is_stopped}
+use Rattle.cluster_core.specs.rule.Next.{is_stopped, kept_next}
 use Rattle.cluster_core.specs.rule.Parts.{world_state}
 use Rattle.cluster_core.specs.rule.World.{WorldState}
 use Rattle.player.specs.declared.calm.Calm.{Calm}
-use Rattle.player.specs.rule.Rounds.{Arrive, IsCalmed, IsQuietRun, IsRound, Refuses}
+use Rattle.player.specs.rule.Rounds.{Arrive, EndsRefused, IsCalmed, IsQuietRun, IsRound}
 
 -- the run goes on by these entries, which are of quiet events
 pub record GoesBy (r : RunFields) (es : List Entry) (s : RunFields) : Type 0 where
@@ -22,9 +22,17 @@ pub record GoesBy (r : RunFields) (es : List Entry) (s : RunFields) : Type 0 whe
 abbrev pub GoesQuietly : RunFields → RunFields → Type 0
 GoesQuietly r s = (es : List Entry) × GoesBy r es s
 
--- where a quiet event was refused, and not for want of memory, it is refused in the world of the run
-abbrev pub Stops : RunFields → Refused → Type 0
-Stops r refusal = refusal ≢ NoMemory → Refuses (world_state r.world) refusal
+-- where one of the events was refused, and not for want of memory, it is refused in the world of the run
+abbrev pub StopsAmong : List Event → RunFields → Refused → Type 0
+StopsAmong events r refusal = refusal ≢ NoMemory → (event : Event) × Contains events event × (kept_next (world_state r.world) event ≡ Err refusal)
+
+-- where the delivery of a message was refused, and not for want of memory, it is one that was sent, and it is refused in the world of the run
+abbrev pub StopsAtSent : RunFields → Refused → Type 0
+StopsAtSent r refusal = refusal ≢ NoMemory → (m : Message) × (is_among r.world.sent m ≡ true) × (kept_next (world_state r.world) (Deliver m) ≡ Err refusal)
+
+-- where an event was refused, and not for want of memory, the run went on up to it, and a round owes it, or it is the delivery of a message that was sent
+abbrev pub Stops : RunFields → RunFields → Refused → Type 0
+Stops r s refusal = refusal ≢ NoMemory → (es : List Entry) × GoesBy r es s × EndsRefused refusal (world_state r.world) es (world_state s.world)
 
 -- the message is one that was sent, from that place on in the order of sending
 abbrev pub IsSentFrom : List Message → ℕ → Message → Type 0

@@ -7,7 +7,7 @@ use Rattle.messages.specs.declared.event.NodeInput.TheVariants.{Retry}
 use Rattle.messages.specs.declared.event.ServerInput.TheVariants.{Resend, Learn}
 use Rattle.messages.specs.declared.message.Message.{Message}
 use Rattle.messages.specs.declared.refusal.Refused.{Refused}
-use Rattle.messages.specs.rule.Messages.{addressee}
+use Rattle.messages.specs.rule.Messages.{addressee, is_among}
 use Rattle.node_core.specs.declared.open_call.OpenCall.{OpenCall}
 use Rattle.cluster_core.specs.rule.Journals.{events_of}
 use Rattle.cluster_core.specs.rule.Next.{is_stopped, kept_next}
@@ -65,14 +65,27 @@ pub record EndsSilent (w : WorldState) (es : List Entry) (v : WorldState) : Type
   pub silent : IsRound mid second v
   pub answers_none : AnswersNone second
 
--- a quiet event is refused so
-abbrev pub Refuses : WorldState → Refused → Type 0
-Refuses w refusal = (event : Event) × IsQuiet event × (kept_next w event ≡ Err refusal)
+-- the event is the delivery of a message that was sent
+abbrev pub IsSent : WorldState → Event → Type 0
+IsSent w (Deliver m) = is_among w.sent m ≡ true
+IsSent w _ = ⊥
+
+-- the entries end in a front of a round, and behind it an event is refused so, which the round owes, or which is the delivery of a message that was sent
+pub record EndsRefused (refusal : Refused) (w : WorldState) (es : List Entry) (v : WorldState) : Type 0 where
+  pub before : List Entry
+  pub front : List Entry
+  pub split : es ≡ before ++ front
+  pub begun : WorldState
+  pub leads : Leads w before begun
+  pub leads_on : Leads begun front v
+  pub event : Event
+  pub owed : IsDue begun event ⊎ IsSent v event
+  pub refused : kept_next v event ≡ Err refusal
 
 abbrev pub EndsAs : Calm → WorldState → List Entry → WorldState → Type 0
 EndsAs calm.NoneOpen w es v = NoneOpen v
 EndsAs calm.Silent w es v = EndsSilent w es v
-EndsAs (calm.Refused refusal) w es v = Refuses v refusal
+EndsAs (calm.Refused refusal) w es v = EndsRefused refusal w es v
 
 -- rounds lead by these entries from one world to another, and end so
 pub record IsCalmed (w : WorldState) (es : List Entry) (v : WorldState) (end : Calm) : Type 0 where

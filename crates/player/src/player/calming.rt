@@ -1,7 +1,7 @@
 //! The rounds behind the lines of a script.
 ghost use Rattle.std.specs.Prelude.{◌≡◌, IfErr, IfOk};
 ghost use Rattle.lockscript.specs.declared.play_error.PlayError.TheVariants.{NoMemory};
-ghost use Rattle.player.specs.code.Rounds.{GoesCalm, GoesQuietly, Stops};
+ghost use Rattle.player.specs.code.Rounds.{GoesCalm, GoesQuietly, Stops, StopsAtSent};
 
 use super::Player;
 use crate::calm::Calm;
@@ -35,7 +35,7 @@ impl Player {
         requires { self.old.run.world.shape ≡ shape }
         ensures goes { GoesQuietly self.old.run self.new.run }
         ensures calm { IfOk result (GoesCalm self.old.run self.new.run) }
-        ensures stops { IfErr result (Stops self.new.run) }
+        ensures stops { IfErr result (Stops self.old.run self.new.run) }
         ensures refused { self.new.refused ≡ self.old.refused }
     {
         self.deliver_rest(alloc)?;
@@ -45,7 +45,7 @@ impl Player {
     // Delivers the messages that aren't settled, in the order in which they were sent, also ones that are sent meanwhile.
     fn deliver_rest(&mut self, alloc: Global) -> Result<(), Refused>
         ensures goes { GoesQuietly self.old.run self.new.run }
-        ensures stops { IfErr result (Stops self.new.run) }
+        ensures stops { IfErr result (StopsAtSent self.new.run) }
         ensures refused { self.new.refused ≡ self.old.refused }
     {
         while self.has_next() {

@@ -1,6 +1,6 @@
 use Rattle.std.proofs.Common.{◌≡◌, ◌∙◌, ℕ, List, ap, length, subst, sym}
 use Rattle.std.proofs.lemmas.List.Elements.{All-weaker}
-use Rattle.std.proofs.lemmas.Result.{IfOk-weaker}
+use Rattle.std.proofs.lemmas.Result.{err_from_is_err_and, IfErr-weaker, IfOk-weaker}
 use Rattle.messages.specs.declared.message.Message.{Message}
 use Rattle.cluster_core.specs.rule.Parts.{WorldParts, world_state}
 use Rattle.cluster_core.specs.rule.Rounds.{IsQuiet}
@@ -9,7 +9,7 @@ use Rattle.player.specs.code.Due.{AreDue}
 use Rattle.player.specs.code.Rounds.{Arrives}
 use Rattle.player.proofs.DueLists.{due_quiet}
 use Rattle.player.proofs.QuietRuns.{quietly_append, quietly_none}
-use Rattle.player.proofs.RoundEnds.{makes_round}
+use Rattle.player.proofs.RoundEnds.{makes_round, stops_due, stops_sent}
 use Rattle.player.proofs.rounds.round.Goals as goal
 
 pub returns-in_err-events-clause-goes : goal.returns-in_err-events-clause-goes
@@ -21,6 +21,19 @@ take_all-requires c =
     let listed : AreDue w c.in_ok-events.events.items = subst (λ (p : WorldParts). AreDue (world_state p) c.in_ok-events.events.items) c.world-2.ensures.value c.in_ok-events.ensures in
     let due : AreDue w c.as_slice.result.now = subst (AreDue w) (sym c.as_slice.ensures.value) listed in
     All-weaker (IsDue w) IsQuiet (due_quiet w) c.as_slice.result.now due.each
+
+pub returns-in_err-take_all-clause-stops : goal.returns-in_err-take_all-clause-stops
+returns-in_err-take_all-clause-stops c =
+    let w = world_state c.args.run.now.world in
+    let listed : AreDue w c.in_ok-events.events.items = subst (λ (p : WorldParts). AreDue (world_state p) c.in_ok-events.events.items) c.world-2.ensures.value c.in_ok-events.ensures in
+    let due : AreDue w c.as_slice.result.now = subst (AreDue w) (sym c.as_slice.ensures.value) listed in
+    let p = err_from_is_err_and c.from_residual-in_err-take_all.result c.from_residual-in_err-take_all.ensures.1 in
+    rw (p.1, p.2) (stops_due c.args.run.now c.take_all.new.run c.as_slice.result.now _ due c.take_all.ensures.goes c.in_err-take_all.ensures.stops)
+
+pub returns-clause-stops : goal.returns-clause-stops
+returns-clause-stops c =
+    let goes = quietly_append c.args.run.now c.take_all.new.run c.deliver_from.new.run c.take_all.ensures.goes c.deliver_from.ensures.goes in
+    IfErr-weaker c.deliver_from.result _ _ (λ refusal stops. stops_sent c.args.run.now c.deliver_from.new.run refusal goes stops) c.deliver_from.ensures.stops
 
 pub returns-clause-goes : goal.returns-clause-goes
 returns-clause-goes c = quietly_append c.args.run.now c.take_all.new.run c.deliver_from.new.run c.take_all.ensures.goes c.deliver_from.ensures.goes

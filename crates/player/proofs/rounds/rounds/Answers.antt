@@ -1,9 +1,10 @@
 use Rattle.std.proofs.Common.{◌∙◌, ℕ, drop, subst}
+use Rattle.std.proofs.lemmas.Result.{err_from_is_err_and}
 use Rattle.cluster_core.specs.rule.Parts.{WorldParts, world_state}
 use Rattle.cluster_core.specs.rule.Rounds.{AnswersNone}
 use Rattle.player.specs.rule.Rounds.{NoneOpen}
 use Rattle.player.proofs.QuietRuns.{quietly_append, quietly_none}
-use Rattle.player.proofs.RoundEnds.{ends_first, ends_next, ends_none_open, ends_quietly, ends_silent, goes_shape}
+use Rattle.player.proofs.RoundEnds.{ends_first, ends_next, ends_none_open, ends_quietly, ends_silent, goes_shape, stops_behind}
 use Rattle.player.proofs.rounds.rounds.Goals as goal
 
 pub returns-then-not-has_open-clause-goes : goal.returns-then-not-has_open-clause-goes
@@ -23,6 +24,11 @@ loop-alloc-init c = record {
 pub returns-in_err-round-2-clause-goes : goal.returns-in_err-round-2-clause-goes
 returns-in_err-round-2-clause-goes c =
     quietly_append c.args.run.now c.loop-alloc.run c.round-in-loop-alloc.new.run (ends_quietly c.args.run.now c.loop-alloc.run c.loop-alloc.invariant.ends) c.round-in-loop-alloc.ensures.goes
+
+pub returns-in_err-round-2-clause-stops : goal.returns-in_err-round-2-clause-stops
+returns-in_err-round-2-clause-stops c =
+    let p = err_from_is_err_and c.from_residual-in_err-round-2.result c.from_residual-in_err-round-2.ensures.1 in
+    rw (p.1, p.2) (stops_behind c.args.run.now c.loop-alloc.run c.round-in-loop-alloc.new.run _ (ends_quietly c.args.run.now c.loop-alloc.run c.loop-alloc.invariant.ends) c.in_err-round-2.ensures.stops)
 
 pub returns-then-not-answers_behind-clause-goes : goal.returns-then-not-answers_behind-clause-goes
 returns-then-not-answers_behind-clause-goes c =

@@ -4,4 +4,4 @@ use Rattle.player.proofs.player.Player.calm.Goals as goal
 
 pub returns-in-Err-clause-calm : goal.returns-in-Err-clause-calm
 returns-in-Err-clause-calm c =
-    ends_refused c.args.self.now.run c.go_round.new.self.run c.in-Err.refusal c.go_round.ensures.goes (c.in-Err.ensures.stops (search rules))
+    ends_refused c.args.self.now.run c.go_round.new.self.run c.in-Err.refusal (search rules) c.in-Err.ensures.stops
