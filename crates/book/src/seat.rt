@@ -113,6 +113,7 @@ impl<J: Name> Seat<J> {
     pub fn catch_up(&mut self, alloc: Global) -> Result<(), AllocError>
         ensures level { OnOk result (IsLevel self.new) }
         ensures sure { IsLevel self.old → OnErr result ⊥ }
+        ensures stays { IsLevel self.old → self.new ≡ self.old }
         ensures same { IsSameSeat self.old self.new }
         ensures unchanged { OnErr result (self.new ≡ self.old) }
     {
@@ -120,7 +121,8 @@ impl<J: Name> Seat<J> {
     }
 
     /// Plans the actor's step at an event, from the seat's state. It takes no lock, and its cost is that of the step's
-    /// change. The seat stays the same, and its copy is level then.
+    /// change. The seat stays the same, and its copy is level then. Where it was level before, steps that were prepared
+    /// earlier fit the seat as before, so there may be several; a commit of one makes the others stale.
     ///
     /// # Errors
     /// In this order: `Spent` where 18,446,744,073,709,551,615 steps were committed from the seat; `NoMemory` where
@@ -129,6 +131,7 @@ impl<J: Name> Seat<J> {
     /// was refused, which may come before the actor's `Spent`.
     pub fn prepare(&mut self, alloc: Global, event: Event) -> Result<Prepared, StepError>
         ensures same { IsSameSeat self.old self.new }
+        ensures stays { IsLevel self.old → self.new ≡ self.old }
         ensures event { IfOk result (λ p. p.event ≡ event) }
         ensures names { IfOk result (λ p. Names p self.new) }
         ensures step { IfOk result (λ p. IsStepFrom self.new p) }

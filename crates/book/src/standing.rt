@@ -77,6 +77,7 @@ impl Standing {
     pub(crate) fn catch_up(&mut self, alloc: Global) -> Result<(), AllocError>
         ensures level { OnOk result (self.new.behind ≡ None) }
         ensures sure { self.old.behind ≡ None → OnErr result ⊥ }
+        ensures stays { self.old.behind ≡ None → self.new ≡ self.old }
         ensures state { standing_state self.new ≡ standing_state self.old }
         ensures unchanged { OnErr result (self.new ≡ self.old) }
     {
