@@ -145,6 +145,112 @@ fn a_step_is_of_an_actor(rt: HostRuntime) -> Result<(), Fail> {
     Ok(())
 }
 
+// Whether of two steps that were prepared from one seat the first is taken, behind a step of another node that was committed meanwhile and
+// with a receipt of its own, and the second then is not.
+fn takes_one_of_two<J: Name>(
+    book: &mut Book<J>,
+    alloc: Global,
+    one: &mut Seat<J>,
+    two: &mut Seat<J>,
+) -> Option<bool> {
+    let Ok(first) = one.prepare(alloc, spawn_of(1, 1)) else {
+        return None;
+    };
+    let Ok(second) = one.prepare(alloc, spawn_of(1, 2)) else {
+        return None;
+    };
+    let other = two.prepare(alloc, spawn(2)).ok()?;
+    let before = book.commit(alloc, two, other, None).ok()?;
+    let Ok(stamp) = book.commit(alloc, one, first, Some(&before.mark())) else {
+        return None;
+    };
+    let stale = book.commit(alloc, one, second, None).err();
+    Some(is_confirmed(book, &before, &stamp) && stale == Some(CommitError::Stale))
+}
+
+// Whether a step that was prepared before its node was declared failed is refused, and the book and the seat are as they were.
+fn is_fenced_as_it_was<J: Name>(
+    book: &mut Book<J>,
+    alloc: Global,
+    one: &mut Seat<J>,
+) -> Option<bool> {
+    let prepared = one.prepare(alloc, spawn_of(1, 2)).ok()?;
+    let declared = position(book.declare(alloc, 1));
+    let refused = book.commit(alloc, one, prepared, None).err();
+    let is_as_it_was = book.len() == 3 && one.commits() == 1;
+    Some(declared == Some(3) && refused == Some(CommitError::Fenced) && is_as_it_was)
+}
+
+// Whether the call of the step is the first one of a node's second incarnation, and is answered at position 5.
+fn is_first_again(stamp: &Stamp) -> bool {
+    match Receipt::of(stamp, stamp) {
+        Some(receipt) => {
+            let call = receipt.call();
+            receipt.reply_at() == 5 && call.incarnation == 2 && call.number == 1
+        }
+        None => false,
+    }
+}
+
+// Whether the node that begins again has a new seat, whose first step is taken, and which commits no step of another node.
+fn begins_on_a_new_seat<J: Name>(
+    book: &mut Book<J>,
+    alloc: Global,
+    one: &mut Seat<J>,
+    two: &mut Seat<J>,
+) -> Option<bool> {
+    put(one, book.restart(alloc, 1))?;
+    let begun = begin(book, alloc, one, 1, None)?;
+    let strange = two.prepare(alloc, spawn_of(2, 2)).ok()?;
+    if one.actor() == two.actor() {
+        return None;
+    }
+    let refused = book.commit(alloc, one, strange, None).err();
+    Some(is_first_again(&begun) && refused == Some(CommitError::Stale))
+}
+
+// Whether a book refuses a step of a seat of another book that has taken one of the same node.
+fn refuses_the_other_book<J: Name>(
+    book: &mut Book<J>,
+    alloc: Global,
+    other: &mut BookWithSeats<J>,
+) -> Option<bool> {
+    let BookWithSeats { book: there, seats } = other;
+    let strange = seats.get_mut(1)?;
+    let began = takes(there, alloc, strange, spawn_of(2, 5));
+    let refused = refusal(book, alloc, strange, spawn_of(2, 6));
+    Some(began && refused == Some(CommitError::Stale))
+}
+
+// Whether steps that were prepared side by side, of two nodes of which one fails and begins again, are taken and refused as their seats say.
+fn takes_and_refuses<J: Name>(
+    opened: &mut BookWithSeats<J>,
+    alloc: Global,
+    other: &mut BookWithSeats<J>,
+) -> Option<bool> {
+    let BookWithSeats { book, seats } = opened;
+    let (one, rest) = seats.split_first_mut()?;
+    let (two, _) = rest.split_first_mut()?;
+    let is_right = takes_one_of_two(book, alloc, one, two)?
+        && is_fenced_as_it_was(book, alloc, one)?
+        && begins_on_a_new_seat(book, alloc, one, two)?;
+    Some(is_right && refuses_the_other_book(book, alloc, other)?)
+}
+
+// The same in two books.
+fn takes_prepared_steps<J: Name>(alloc: Global) -> Result<bool, Fail> {
+    let mut opened = begins::<J>(alloc, None)?;
+    let mut other = begins::<J>(alloc, None)?;
+    Ok(takes_and_refuses(&mut opened, alloc, &mut other) == Some(true))
+}
+
+#[test]
+fn a_seat_holds_prepared_steps(rt: HostRuntime) -> Result<(), Fail> {
+    let is_right = takes_prepared_steps::<Brand>(rt.alloc())?;
+    assert!(rt; is_right);
+    Ok(())
+}
+
 // Whether an item that is put into a trail has a place, which is that of its copy and not that of the next one.
 fn has_places<J: Name>(items: Unnamed<u8>) -> bool
     requires { items ≡ J.trail }

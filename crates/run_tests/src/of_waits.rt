@@ -70,6 +70,11 @@ fn is_fenced<R: Wait>(rt: &R, client: &mut Caller<'_>) -> bool {
     client.call(rt, Op::Process(ProcessCall::Spawn)).err() == Some(CallError::Fenced)
 }
 
+// Whether process 2 of node 2, which has a client of this incarnation, gets no second one.
+fn has_client<R: Wait>(rt: &R, cluster: &Lent<'_>) -> bool {
+    cluster.client(rt, 2, 2).err() == Some(CallError::Busy)
+}
+
 // Node 2 fails while a process waits for a lock of node 1, which is refused then and later, and begins again: why the wait ended, and the
 // receipt of the next incarnation.
 fn wait_until_failure<R: Threads + Wait + Clock + Sync>(
@@ -78,6 +83,9 @@ fn wait_until_failure<R: Threads + Wait + Clock + Sync>(
     one: &mut Caller<'_>,
     two: &mut Caller<'_>,
 ) -> Option<(Option<CallError>, Receipt)> {
+    if !has_client(rt, cluster) {
+        return None;
+    }
     let held = begin(rt, one, set(0, 10))?;
     two.told(&held);
     begin(rt, two, set(20, 10))?;
@@ -86,11 +94,11 @@ fn wait_until_failure<R: Threads + Wait + Clock + Sync>(
         return None;
     }
     cluster.restart(rt, 2).ok()?;
-    let receipt = cluster
-        .client(rt, 2, 2)
-        .ok()?
-        .call(rt, Op::Process(ProcessCall::Spawn))
-        .ok()?;
+    let mut again = cluster.client(rt, 2, 2).ok()?;
+    if !has_client(rt, cluster) {
+        return None;
+    }
+    let receipt = again.call(rt, Op::Process(ProcessCall::Spawn)).ok()?;
     is_fenced(rt, two).then_some((ended, receipt))
 }
 
