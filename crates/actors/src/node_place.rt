@@ -1,8 +1,8 @@
 //! The place of a node: what a running cluster knows of it.
-ghost use Rattle.std.specs.Prelude.{◌≡◌, ◌≢◌, ◌≤◌, Err, None, Some, [], false, true, IfErr, IfOk};
+ghost use Rattle.std.specs.Prelude.{◌≡◌, ◌≢◌, ◌≤◌, ◌↔◌, ◌++◌, ◌∷◌, Contains, Err, None, Some, [], false, true, IfErr, IfOk, OnErr};
 ghost use Rattle.book.specs.rule.Fields.{seat_state};
 ghost use Rattle.book.specs.rule.States.{incarnation_of};
-ghost use Rattle.actors.specs.declared.call_error.CallError.TheVariants.{Fenced, Stranger};
+ghost use Rattle.actors.specs.declared.call_error.CallError.TheVariants.{Busy, Fenced, Stranger};
 
 use crate::call_error::CallError;
 use book::seat::Seat;
@@ -39,7 +39,10 @@ impl<J: Name> NodePlace<J> {
     pub(crate) fn hand_out(&mut self, pid: u16) -> Result<u16, CallError>
         ensures from_one { IfOk result (λ incarnation. 1 ≤ incarnation) }
         ensures value { IfOk result (λ incarnation. incarnation ≡ self.old.incarnation) }
-        ensures fenced { self.old.alive ≡ false → result ≡ Err Fenced }
+        ensures fenced { self.old.alive ≡ false ↔ result ≡ Err Fenced }
+        ensures busy { (self.old.alive ≡ true) × Contains self.old.clients.items pid ↔ result ≡ Err Busy }
+        ensures handed_out { IfOk result (λ incarnation. self.new.clients.items ≡ self.old.clients.items ++ pid ∷ []) }
+        ensures unchanged { OnErr result (self.new.clients.items ≡ self.old.clients.items) }
         ensures refused { IfErr result (λ why. why ≢ Stranger) }
         ensures node { (self.new.incarnation ≡ self.old.incarnation) × (self.new.alive ≡ self.old.alive) × (self.new.seat ≡ self.old.seat) }
     {
