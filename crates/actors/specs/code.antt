@@ -1,2 +1,1 @@
-pub mod Weathers
 pub mod Refusals

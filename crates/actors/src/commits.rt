@@ -1,6 +1,7 @@
 //! The commit of a step to the book that threads share.
 ghost use Rattle.std.specs.Prelude.{◌≡◌, IfOk};
-ghost use Rattle.book.specs.rule.Commits.{Names, IsStepFrom};
+ghost use Rattle.book.specs.rule.Commits.{Names};
+ghost use Rattle.book.specs.code.Copies.{IsStepFrom};
 
 use crate::gate::{Gate, GatePoint};
 use crate::halt::Halt;

@@ -1,6 +1,7 @@
 //! The worker of an actor: the thread that takes its letters and makes its steps.
 ghost use Rattle.std.specs.Prelude.{◌<◌};
-ghost use Rattle.book.specs.rule.Commits.{Names, IsStepFrom};
+ghost use Rattle.book.specs.rule.Commits.{Names};
+ghost use Rattle.book.specs.code.Copies.{IsStepFrom};
 
 use crate::call_error::CallError;
 use crate::commits::commit;

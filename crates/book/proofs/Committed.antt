@@ -19,7 +19,7 @@ use Rattle.cluster_core.specs.rule.Actors.{Records, member_of}
 use Rattle.book.specs.rule.States.{actor_of, StepsTo, is_declared, made_by}
 use Rattle.book.specs.rule.Fields.{SeatFields, seat_state, PreparedFields, StampFields}
 use Rattle.book.specs.rule.Commits.{IsSeatOf, Accepts, Commits}
-use Rattle.book.specs.code.Turns.{Turns, IsLastStamp, Declared, Restarted, Failed, Started}
+use Rattle.book.specs.rule.Turns.{Turns, IsLastStamp, Declared, Restarted, Failed, Started}
 use Rattle.book.specs.code.LastSpots.{LastSpots, AreReached, Noted, Forgotten}
 use Rattle.book.proofs.Fences.{stays_declared}
 use Rattle.book.proofs.Reached.{reached_noted, reached_forgotten}

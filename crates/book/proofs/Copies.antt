@@ -21,7 +21,8 @@ use Rattle.book.specs.declared.state.State.{State}
 use Rattle.book.specs.declared.state.State.TheVariants.{OfNode, OfServer}
 use Rattle.book.specs.rule.States.ActorState.{NodeIs, ServerIs}
 use Rattle.book.specs.rule.States.{ActorState, actor_of, incarnation_of, StepsTo, MayTake, Rejects, left_by, once_taken, is_declared}
-use Rattle.book.specs.code.Copies.{state_of, Plans, Becomes}
+use Rattle.book.specs.code.Copies.{Plans, Becomes}
+use Rattle.book.specs.rule.States.{state_of}
 
 -- a step leads to the state once its event is taken
 pub taken_is : (s : ActorState) (event : Event) (t : ActorState) (o : Outcome) → StepsTo s event t o → once_taken s (Some event) ≡ t

@@ -3,7 +3,7 @@ use Rattle.std.proofs.Common.{◌≡◌, ℕ, ◌<◌, ◌≤◌, ◌-◌, Bool,
 use Rattle.messages.specs.declared.entry.Entry.{Entry}
 use Rattle.cluster_core.specs.rule.Next.{entry}
 use Rattle.book.specs.rule.Fields.{StampFields, ReceiptFields}
-use Rattle.book.specs.code.Receipts.{IsStampOf, IsReceiptOf, Holds}
+use Rattle.book.specs.rule.Receipts.{IsStampOf, IsReceiptOf, Holds}
 
 pub held_by_stamps : (entries : List Entry) (call reply : StampFields) (r : ReceiptFields) → IsStampOf entries call → IsStampOf entries reply → IsReceiptOf call reply r → r.seen < r.call_at → r.call_at ≤ r.reply_at → Holds entries r
 held_by_stamps entries call reply r a b is before order = record {

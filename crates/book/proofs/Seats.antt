@@ -8,8 +8,8 @@ use Rattle.cluster_core.proofs.common.Places.{slice_get-push}
 use Rattle.book.specs.declared.state.State.{State}
 use Rattle.book.specs.rule.Fields.{SeatFields, seat_state}
 use Rattle.book.specs.rule.States.{actor_of, HasState}
-use Rattle.book.specs.code.Copies.{state_of}
-use Rattle.book.specs.code.Seats.{actor_at, IsFirstSeat, AreFirst}
+use Rattle.book.specs.rule.States.{state_of}
+use Rattle.book.specs.rule.Seats.{actor_at, IsFirstSeat, AreFirst}
 
 pub none_first : (shape : ShapeFields) → AreFirst shape []
 none_first shape k s e = absurd (cc)

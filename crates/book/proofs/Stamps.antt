@@ -4,7 +4,7 @@ use Rattle.messages.specs.declared.entry.Entry.{Entry}
 use Rattle.cluster_core.specs.rule.Next.{entry}
 use Rattle.cluster_core.proofs.common.Places.{slice_get-keeps, slice_get-last}
 use Rattle.book.specs.rule.Fields.{StampFields}
-use Rattle.book.specs.code.Receipts.{IsStampOf}
+use Rattle.book.specs.rule.Receipts.{IsStampOf}
 
 -- a stamp of the journal is one of the longer journal
 pub stays : (entries fs : List Entry) (e : Entry) (o : StampFields) → fs ≡ entries ++ e ∷ [] → IsStampOf entries o → IsStampOf fs o

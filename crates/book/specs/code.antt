@@ -1,5 +1,2 @@
 pub mod Copies
-pub mod Receipts
-pub mod Seats
-pub mod Turns
 pub mod LastSpots

@@ -1,3 +1,6 @@
 pub mod States
 pub mod Fields
 pub mod Commits
+pub mod Receipts
+pub mod Turns
+pub mod Seats

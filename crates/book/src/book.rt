@@ -12,10 +12,11 @@ ghost use Rattle.cluster_core.specs.rule.Journals.{RunFields, journal_of};
 ghost use Rattle.cluster_core.specs.rule.Histories.{HasOneHistory};
 ghost use Rattle.cluster_core.specs.rule.Safe.{IsSafe};
 ghost use Rattle.book.specs.rule.Fields.{SeatFields, StampFields};
-ghost use Rattle.book.specs.code.Receipts.{Holds, IsStampOf, IsReceiptOf};
-ghost use Rattle.book.specs.rule.Commits.{Names, IsStepFrom, IsSeatOf, Refuses, Commits, seen_at};
-ghost use Rattle.book.specs.code.Turns.{Declared, Restarted, Failed, Started};
-ghost use Rattle.book.specs.code.Seats.{IsFirstSeat};
+ghost use Rattle.book.specs.rule.Receipts.{Holds, IsStampOf, IsReceiptOf};
+ghost use Rattle.book.specs.rule.Commits.{Names, IsSeatOf, Refuses, Commits, seen_at};
+ghost use Rattle.book.specs.code.Copies.{IsStepFrom};
+ghost use Rattle.book.specs.rule.Turns.{Declared, Restarted, Failed, Started};
+ghost use Rattle.book.specs.rule.Seats.{IsFirstSeat};
 
 use crate::book::beginnings::{node_seats, push_servers};
 use crate::commit_error::CommitError;

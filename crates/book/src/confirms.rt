@@ -9,7 +9,7 @@ use cluster_core::journal::Journal;
 pub trait Confirms {
     ghost use Rattle.std.specs.Prelude.{List};
     ghost use Rattle.messages.specs.declared.entry.Entry.{Entry};
-    ghost use Rattle.book.specs.code.Receipts.{Holds};
+    ghost use Rattle.book.specs.rule.Receipts.{Holds};
 
     /// The entries, in the proofs alone.
     ghost list: { Self → List Entry };

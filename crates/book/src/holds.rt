@@ -1,6 +1,6 @@
 //! The test whether entries have a receipt's call and reply.
 ghost use Rattle.std.specs.Prelude.{◌≡◌, ◌<◌, ◌≤◌, ◌-◌, ◌↔◌, IsTrue, IfSome, MatchOption, MatchBool, Some, None, slice_get};
-ghost use Rattle.book.specs.code.Receipts.{Holds, call_in};
+ghost use Rattle.book.specs.rule.Receipts.{Holds, call_in};
 
 use crate::receipt::{Receipt, call_in, same_id};
 use messages::entry::Entry;

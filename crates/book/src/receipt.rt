@@ -1,7 +1,7 @@
 //! A receipt: the proof of a call and its reply in a journal.
 ghost use Rattle.std.specs.Prelude.{◌≡◌, ◌<◌, ◌≤◌, ◌↔◌, IsTrue, MatchOption, Option, Some};
 ghost use Rattle.book.specs.rule.Fields.{ReceiptFields};
-ghost use Rattle.book.specs.code.Receipts.{call_in, IsReceiptOf};
+ghost use Rattle.book.specs.rule.Receipts.{call_in, IsReceiptOf};
 
 use crate::mark::Mark;
 use crate::stamp::Stamp;

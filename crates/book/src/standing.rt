@@ -30,7 +30,7 @@ impl Model for Standing {
     ghost use Rattle.std.specs.Prelude.{IfSome};
     ghost use Rattle.book.specs.rule.Fields.{StandingFields};
     ghost use Rattle.book.specs.rule.States.{MayTake};
-    ghost use Rattle.book.specs.code.Copies.{state_of};
+    ghost use Rattle.book.specs.rule.States.{state_of};
 
     ghost Value = { StandingFields };
 

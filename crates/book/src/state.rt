@@ -101,7 +101,8 @@ fn planned_server(
 
 impl State {
     ghost use Rattle.book.specs.rule.States.{actor_of, incarnation_of, Rejects, HasState, is_declared};
-    ghost use Rattle.book.specs.code.Copies.{state_of, Fits, Plans, Becomes};
+    ghost use Rattle.book.specs.code.Copies.{Fits, Plans, Becomes};
+    ghost use Rattle.book.specs.rule.States.{state_of};
 
     /// The actor of the state.
     pub(crate) fn actor(&self) -> Actor

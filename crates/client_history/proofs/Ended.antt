@@ -5,7 +5,7 @@ use Rattle.std.proofs.lemmas.Bool.{cases_lt}
 use Rattle.std.proofs.lemmas.List.{drop_all, take_all, append-nil}
 use Rattle.std.proofs.lemmas.Option.{none-some, slice_get_within}
 use Rattle.model.specs.rule.Locks.{Locks, no_locks}
-use Rattle.lock_table.specs.code.Rows.{held}
+use Rattle.lock_table.specs.rule.Tables.{held}
 use Rattle.client_history.specs.declared.client_call.ClientCall.{ClientCall}
 use Rattle.client_history.specs.declared.open_client_call.OpenClientCall.{OpenClientCall}
 use Rattle.client_history.specs.declared.search_front.SearchFront.{SearchFront}

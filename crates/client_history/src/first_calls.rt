@@ -2,7 +2,7 @@
 //! where a request for memory was refused.
 ghost use Rattle.std.specs.Prelude.{◌≡◌, ℕ, true, List, slice_get, Some, IfOk, IsTrue, ◌↔◌};
 ghost use Rattle.model.specs.rule.Locks.{Locks};
-ghost use Rattle.lock_table.specs.code.Rows.{held};
+ghost use Rattle.lock_table.specs.rule.Tables.{held};
 ghost use Rattle.client_history.specs.declared.open_client_call.OpenClientCall.{OpenClientCall as SomeCall};
 ghost use Rattle.client_history.specs.rule.Acts.{ActStep};
 ghost use Rattle.client_history.specs.code.ClosedSets.{IsGrown, IsClosedSet};

@@ -2,7 +2,7 @@
 //! answers `AllocError` where a request for memory was refused.
 ghost use Rattle.std.specs.Prelude.{◌≡◌, ◌≢◌, true, false, IfOk, IsTrue, ◌↔◌};
 ghost use Rattle.model.specs.rule.Locks.{Locks, IsFree, IsInWay};
-ghost use Rattle.lock_table.specs.code.Rows.{held};
+ghost use Rattle.lock_table.specs.rule.Tables.{held};
 ghost use Rattle.lock_table.specs.declared.error.LockError.TheVariants.{NoMemory};
 ghost use Rattle.client_history.specs.rule.Acts.{ActStep, IsBlocked, IsTold};
 ghost use Rattle.client_history.specs.rule.Explained.{the_file};

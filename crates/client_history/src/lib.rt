@@ -28,7 +28,5 @@ mod paths;
 mod search;
 mod search_front;
 mod sound;
-#[cfg(test)]
-mod tests;
 pub mod told_lock;
 pub mod verdict;

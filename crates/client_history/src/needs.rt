@@ -1,7 +1,7 @@
 //! The calls that a call needs: they may have to come before it.
 ghost use Rattle.std.specs.Prelude.{◌≡◌, ◌≢◌, ◌⊎◌, Some, None, true, false, IfOk, IsTrue, MatchOption, ◌↔◌};
 ghost use Rattle.model.specs.rule.Locks.{IsInWay};
-ghost use Rattle.lock_table.specs.code.Rows.{held};
+ghost use Rattle.lock_table.specs.rule.Tables.{held};
 ghost use Rattle.client_history.specs.rule.Acts.{ActStep};
 ghost use Rattle.client_history.specs.code.ClosedSets.{FindsNoLock, IsHeldUp, IsNotDenied, IsNeeded};
 ghost use Rattle.client_history.specs.rule.Explained.{the_file};

@@ -1,7 +1,7 @@
 //! The search for an order of calls that explains a history.
 ghost use Rattle.std.specs.Prelude.{◌≡◌, ◌<◌, ◌≤◌, ◌++◌, ◌∷◌, [], ℕ, IfOk, List, length, slice_get, Some};
 ghost use Rattle.model.specs.rule.Locks.{no_locks};
-ghost use Rattle.lock_table.specs.code.Rows.{held};
+ghost use Rattle.lock_table.specs.rule.Tables.{held};
 ghost use Rattle.client_history.specs.declared.client_call.ClientCall.{ClientCall as SomeCall};
 ghost use Rattle.client_history.specs.declared.search_front.SearchFront.{SearchFront as SomeSearchFront};
 ghost use Rattle.client_history.specs.declared.moment.Moment.{Moment as SomeMoment};

@@ -2,7 +2,7 @@
 //! request for memory was refused.
 ghost use Rattle.std.specs.Prelude.{◌≡◌, ℕ, true, false, [], IfOk, IsTrue, ◌↔◌};
 ghost use Rattle.model.specs.rule.Locks.{Locks, no_locks};
-ghost use Rattle.lock_table.specs.code.Rows.{held};
+ghost use Rattle.lock_table.specs.rule.Tables.{held};
 ghost use Rattle.client_history.specs.rule.Acts.{ActStep};
 ghost use Rattle.client_history.specs.rule.Explained.{the_file, Stands};
 ghost use Rattle.client_history.specs.code.Taken.{IsAlsoTaken};

@@ -11,7 +11,8 @@ use Rattle.model.specs.rule.Descriptors.{Processes, is_of, is_open, lowest_descr
 use Rattle.model.proofs.SearchLaws.{first-passes}
 use Rattle.model.proofs.Pigeons.{no_hole}
 use Rattle.descriptors.specs.declared.process_entry.ProcessEntry.{ProcessEntry}
-use Rattle.descriptors.specs.code.Rows.{slot, idle, processes, AreRows}
+use Rattle.descriptors.specs.code.Rows.{AreRows}
+use Rattle.descriptors.specs.rule.Rows.{slot, idle, processes}
 use Rattle.descriptors.specs.code.Edits.{IsKnown}
 use Rattle.descriptors.specs.code.Counts.{places, AreCounts}
 use Rattle.descriptors.proofs.RowLaws.{processes-opened, processes-runs, runs_within, runs-numbered}

@@ -11,7 +11,8 @@ use Rattle.model.proofs.SearchLaws.{failed-start, first-passes, some_passes-foun
 use Rattle.intervals.specs.rule.Search.{first}
 use Rattle.descriptors.specs.declared.process_entry.ProcessEntry.{ProcessEntry}
 use Rattle.descriptors.specs.declared.error.FdError.TheVariants.{NoProcess}
-use Rattle.descriptors.specs.code.Rows.{slot, idle, row, processes, IsSameRow, AreNumbered, IsRow, AreRows, resolved, opened_or}
+use Rattle.descriptors.specs.code.Rows.{IsSameRow, AreNumbered, IsRow, AreRows, resolved, opened_or}
+use Rattle.descriptors.specs.rule.Rows.{slot, idle, row, processes}
 
 -- a search of no numbers finds none that passes
 pub some_passes-zero : (passes : ℕ → Bool) (lo : ℕ) → some_passes passes lo 0 ≡ false

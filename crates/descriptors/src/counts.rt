@@ -2,7 +2,8 @@
 ghost use Rattle.std.specs.Prelude.{◌≡◌, ◌≤◌, ◌<◌, ◌+◌, ◌-◌, ◌==◌, ℕ, [], IfOk, OnOk, length, slice_set};
 ghost use Rattle.intervals.specs.rule.Search.{first};
 ghost use Rattle.model.specs.rule.Limits.{most_descriptors, most_descriptions};
-ghost use Rattle.descriptors.specs.code.Rows.{processes, AreRows};
+ghost use Rattle.descriptors.specs.code.Rows.{AreRows};
+ghost use Rattle.descriptors.specs.rule.Rows.{processes};
 ghost use Rattle.descriptors.specs.code.Counts.{count_of, references_below, AreCounts, AreUsed};
 
 use crate::process_entry::ProcessEntry;

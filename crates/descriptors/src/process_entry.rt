@@ -1,7 +1,8 @@
 //! One process and its descriptors, as a row of the table of processes.
 ghost use Rattle.std.specs.Prelude.{◌≡◌, ◌↔◌, ◌<◌, ◌==◌, if◌then◌else◌, IsTrue, IfSome, ℕ, None};
 ghost use Rattle.model.specs.rule.Descriptors.{is_of_file};
-ghost use Rattle.descriptors.specs.code.Rows.{slot, IsSameRow};
+ghost use Rattle.descriptors.specs.code.Rows.{IsSameRow};
+ghost use Rattle.descriptors.specs.rule.Rows.{slot};
 
 use model::limits::MOST_DESCRIPTORS;
 use model::opened::Opened;

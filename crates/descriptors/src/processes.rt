@@ -3,7 +3,8 @@ ghost use Rattle.std.specs.Prelude.{◌≡◌, ◌≢◌, ◌≤◌, ◌<◌, �
 ghost use Rattle.model.specs.declared.reply.Reply.TheVariants.{Done, Fd};
 ghost use Rattle.model.specs.rule.Limits.{IsNumber, most_processes, most_descriptors, most_descriptions};
 ghost use Rattle.model.specs.rule.Descriptors.{no_processes, with_process, has_open, after_spawn, after_fork, after_open, after_dup};
-ghost use Rattle.descriptors.specs.code.Rows.{processes, resolved, Refuses, IsClosed};
+ghost use Rattle.descriptors.specs.code.Rows.{resolved, Refuses, IsClosed};
+ghost use Rattle.descriptors.specs.rule.Rows.{processes};
 
 use crate::counts::{Counts, release};
 use crate::error::{FdError, ProcessError};
@@ -43,7 +44,8 @@ pub struct Processes {
 impl Model for Processes {
     ghost use Rattle.std.specs.Prelude.{◌≡◌, List, length};
     ghost use Rattle.descriptors.specs.declared.process_entry.ProcessEntry.{ProcessEntry};
-    ghost use Rattle.descriptors.specs.code.Rows.{AreRows, processes};
+    ghost use Rattle.descriptors.specs.code.Rows.{AreRows};
+    ghost use Rattle.descriptors.specs.rule.Rows.{processes};
     ghost use Rattle.descriptors.specs.code.Counts.{AreCounts, places};
 
     ghost Value = { List ProcessEntry };
@@ -55,7 +57,7 @@ impl Model for Processes {
 
 impl Processes {
     /// The processes of a node on which none runs.
-    #[tactic(auto, unfolding(crate::specs::code::Rows::processes))]
+    #[tactic(auto, unfolding(crate::specs::rule::Rows::processes))]
     pub fn new(alloc: Global) -> Self
         ensures { processes result ≡ no_processes }
     {

@@ -2,7 +2,8 @@
 ghost use Rattle.std.specs.Prelude.{◌≡◌, ◌<◌, ◌≤◌, ◌+◌, ◌↔◌, ℕ, None, true, IfOk, IfSome, IsTrue, OnOk, length};
 ghost use Rattle.model.specs.rule.Limits.{IsNumber, most_processes, most_descriptors, most_descriptions};
 ghost use Rattle.model.specs.rule.Descriptors.{no_processes, with_process, with_descriptor};
-ghost use Rattle.descriptors.specs.code.Rows.{slot, row, processes, IsSameRow, AreRows};
+ghost use Rattle.descriptors.specs.code.Rows.{IsSameRow, AreRows};
+ghost use Rattle.descriptors.specs.rule.Rows.{slot, row, processes};
 
 use crate::process_entry::ProcessEntry;
 use model::opened::Opened;
@@ -19,7 +20,7 @@ fn row_at(rows: &[ProcessEntry], pid: usize) -> ProcessEntry
 }
 
 /// Whether the process runs.
-#[tactic(auto, unfolding(crate::specs::code::Rows::processes))]
+#[tactic(auto, unfolding(crate::specs::rule::Rows::processes))]
 pub fn is_running(rows: &[ProcessEntry], pid: usize) -> bool
     ensures { result ≡ (processes rows.now).runs pid }
 {
@@ -30,7 +31,7 @@ pub fn is_running(rows: &[ProcessEntry], pid: usize) -> bool
 }
 
 /// What the descriptor of the process refers to, if it is open.
-#[tactic(auto, unfolding(crate::specs::code::Rows::processes))]
+#[tactic(auto, unfolding(crate::specs::rule::Rows::processes))]
 pub fn opened_at(rows: &[ProcessEntry], pid: usize, fd: u8) -> Option<Opened>
     requires { AreRows rows.now }
     ensures value { result ≡ (processes rows.now).opened pid fd }

@@ -7,10 +7,10 @@ use Rattle.model.specs.rule.Owners.{process_owner, description_owner}
 use Rattle.model.specs.rule.Locks.{Locks, without_owner, without_owner_anywhere}
 use Rattle.model.specs.rule.Descriptors.{Processes, is_open, with_process, with_descriptor}
 use Rattle.model.specs.rule.Table.{Table, around, is_running, descriptor, with_processes, closed_if, closed_below}
-use Rattle.lock_table.specs.code.Rows.{TableParts, held}
+use Rattle.lock_table.specs.rule.Tables.{TableParts, held}
 use Rattle.model.proofs.OwnerLaws.{host_refl}
 use Rattle.descriptors.specs.declared.process_entry.ProcessEntry.{ProcessEntry}
-use Rattle.descriptors.specs.code.Rows.{processes}
+use Rattle.descriptors.specs.rule.Rows.{processes}
 use Rattle.fcntl_table.specs.rule.Hosts.{Closes, process_at, shown, with_host}
 use Rattle.fcntl_table.proofs.TableLaws.{host_of}
 

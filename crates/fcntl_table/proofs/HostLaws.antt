@@ -11,16 +11,17 @@ use Rattle.model.specs.contracts.host.HostPartialEq.TheImpl as derived
 use Rattle.model.specs.rule.Limits.{IsHost}
 use Rattle.model.specs.rule.Descriptors.{Processes, no_processes, after}
 use Rattle.model.specs.rule.Table.{Table}
-use Rattle.lock_table.specs.code.Rows.{TableParts, held}
+use Rattle.lock_table.specs.rule.Tables.{TableParts, held}
 use Rattle.model.specs.rule.Owners.{same_host}
 use Rattle.descriptors.specs.declared.process_entry.ProcessEntry.{ProcessEntry}
 use Rattle.descriptors.specs.declared.edit.ProcessEdit.{ProcessEdit}
-use Rattle.descriptors.specs.code.Rows.{processes}
+use Rattle.descriptors.specs.rule.Rows.{processes}
 use Rattle.descriptors.specs.code.Edits.{edited, Fits}
 use Rattle.model.specs.declared.op.ProcessCall.{ProcessCall}
 use Rattle.model.specs.declared.op.ProcessCall.TheVariants.{Spawn, Fork, Open, Dup}
 use Rattle.model.specs.declared.reply.Reply.TheVariants.{NoProcess}
-use Rattle.fcntl_table.specs.rule.Hosts.{HostRows, AreHosts, FitsOn, IsKept, processes_of, shown, table_with, with_host}
+use Rattle.fcntl_table.specs.rule.Hosts.{HostRows, AreHosts, IsKept, processes_of, shown, table_with, with_host}
+use Rattle.fcntl_table.specs.code.Hosts.{FitsOn}
 
 abbrev at : ℕ → ℕ → Host
 at node incarnation = record { node = node; incarnation = incarnation }

@@ -16,7 +16,7 @@ use Rattle.model.specs.rule.Descriptors.{Processes, no_processes, after_spawn}
 use Rattle.model.specs.rule.Locks.{no_locks}
 use Rattle.model.specs.rule.Table.{Table, LockTarget, empty_table, around, is_running, descriptor, beside, target_at, target, closed_at, closed_if, after_close}
 use Rattle.model.specs.rule.Step.{Is}
-use Rattle.lock_table.specs.code.Rows.{held}
+use Rattle.lock_table.specs.rule.Tables.{held}
 use Rattle.descriptors.specs.declared.error.FdError.{FdError}
 use Rattle.descriptors.specs.declared.error.FdError.TheVariants.{NoProcess, BadFd}
 use Rattle.descriptors.specs.declared.error.ProcessError.{ProcessError}

@@ -1,2 +1,2 @@
-pub mod Targets
 pub mod Edits
+pub mod Hosts

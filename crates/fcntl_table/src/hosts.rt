@@ -6,7 +6,8 @@ ghost use Rattle.model.specs.rule.Table.{descriptor, closed_if, exited};
 ghost use Rattle.descriptors.specs.code.Rows.{resolved, Refuses};
 ghost use Rattle.descriptors.specs.code.Edits.{edited};
 ghost use Rattle.descriptors.specs.code.Calls.{begins, CanBegin};
-ghost use Rattle.fcntl_table.specs.rule.Hosts.{FitsOn, IsKept, process_at, processes_of, table_with, with_host};
+ghost use Rattle.fcntl_table.specs.rule.Hosts.{IsKept, process_at, processes_of, table_with, with_host};
+ghost use Rattle.fcntl_table.specs.code.Hosts.{FitsOn};
 
 use crate::shut::{close_at, exit_at};
 use descriptors::edit::ProcessEdit;

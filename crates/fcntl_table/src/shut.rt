@@ -3,7 +3,7 @@ ghost use Rattle.std.specs.Prelude.{◌≡◌, ℕ, true, IfSome};
 ghost use Rattle.model.specs.rule.Limits.{IsNumber, most_of, most_processes, most_descriptions};
 ghost use Rattle.model.specs.rule.Descriptors.{Processes as ProcessTable};
 ghost use Rattle.model.specs.rule.Table.{descriptor, closed_if, exited};
-ghost use Rattle.descriptors.specs.code.Rows.{processes as processes_of};
+ghost use Rattle.descriptors.specs.rule.Rows.{processes as processes_of};
 ghost use Rattle.fcntl_table.specs.rule.Hosts.{Closes, process_at, shown};
 
 use descriptors::processes::Processes;

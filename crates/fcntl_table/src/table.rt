@@ -8,7 +8,7 @@ ghost use Rattle.model.specs.rule.Step.{Is, Unblocked};
 ghost use Rattle.descriptors.specs.code.Rows.{Refuses};
 ghost use Rattle.descriptors.specs.code.Calls.{begins, CanBegin};
 ghost use Rattle.fcntl_table.specs.declared.edit.TableEdit.TheVariants.{Nothing};
-ghost use Rattle.fcntl_table.specs.code.Targets.{IsOwn, IsSpan};
+ghost use Rattle.fcntl_table.specs.rule.Targets.{IsOwn, IsSpan};
 ghost use Rattle.fcntl_table.specs.rule.Tables.{table_of, Keeps};
 ghost use Rattle.fcntl_table.specs.code.Edits.{edited, Fits};
 

@@ -2,7 +2,7 @@
 ghost use Rattle.std.specs.Prelude.{◌≡◌, Some, Ok, IfOk};
 ghost use Rattle.model.specs.rule.Limits.{IsNumber, most_descriptions};
 ghost use Rattle.model.specs.rule.Table.{permits, allows, owner_of, target_at};
-ghost use Rattle.fcntl_table.specs.code.Targets.{IsOwn, IsSpan};
+ghost use Rattle.fcntl_table.specs.rule.Targets.{IsOwn, IsSpan};
 
 use intervals::span::{Span, SpanError};
 use model::access::Access;

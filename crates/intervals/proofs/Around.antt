@@ -4,7 +4,8 @@ use Rattle.std.proofs.lemmas.Bool.{cases_lt}
 use Rattle.std.proofs.lemmas.Bool.Decides.{nat_tests}
 use Rattle.intervals.specs.declared.byte_run.ByteRun.{ByteRun}
 use Rattle.intervals.specs.rule.Bytes.{Range, IsRun, IsBarred, NoneIn, IsLargest}
-use Rattle.intervals.specs.code.Runs.{bytes_of, value_at, IsBarredValue, AreRuns, EndsBelow, EndsFrom, IsLowestFree, IsHighestFree}
+use Rattle.intervals.specs.code.Runs.{IsBarredValue, AreRuns, EndsBelow, EndsFrom, IsLowestFree, IsHighestFree}
+use Rattle.intervals.specs.rule.Runs.{bytes_of, value_at}
 use Rattle.intervals.proofs.Runs.{ends_below_le, at-past, at-append}
 use Rattle.intervals.proofs.Find.{BarredLeft, left-none, barred-some, barred-value, barred-along, not_barred-none, before-none, first-some}
 use Rattle.intervals.proofs.Split.{ends-before, runs-front, at-front, barred-back}

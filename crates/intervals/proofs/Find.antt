@@ -5,7 +5,8 @@ use Rattle.std.proofs.Math.Seq.{drop-nil}
 use Rattle.std.proofs.lemmas.Bool.Decides.{nat_tests}
 use Rattle.intervals.specs.declared.byte_run.ByteRun.{ByteRun}
 use Rattle.intervals.specs.rule.Bytes.{Range, IsRun, IsBarred, IsFirstIn, NoneIn, nothing}
-use Rattle.intervals.specs.code.Runs.{bytes_of, value_at, IsBarredValue, Follows, AreRuns, EndsBelow}
+use Rattle.intervals.specs.code.Runs.{IsBarredValue, Follows, AreRuns, EndsBelow}
+use Rattle.intervals.specs.rule.Runs.{bytes_of, value_at}
 
 -- a byte up to the end of r has no value in the runs after r
 pub after-none : {V : Type 0} (r : ByteRun V) (rest : List (ByteRun V)) (b : ℕ) → Follows r rest → AreRuns rest → b ≤ r.hi → value_at rest b ≡ None

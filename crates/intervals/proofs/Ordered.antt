@@ -6,7 +6,8 @@ use Rattle.std.proofs.Common.{◌≡◌, ℕ, zero, suc, length, get_or, take, d
 use Rattle.std.specs.Option.{MatchOption}
 use Rattle.intervals.specs.declared.byte_run.ByteRun.{ByteRun}
 use Rattle.intervals.specs.rule.Bytes.{greatest, IsRun}
-use Rattle.intervals.specs.code.Runs.{bytes_of, value_at, AreRuns, EndsBelow}
+use Rattle.intervals.specs.code.Runs.{AreRuns, EndsBelow}
+use Rattle.intervals.specs.rule.Runs.{bytes_of, value_at}
 use Rattle.intervals.specs.code.Entries.{BeginAbove, IsLastTo, NoneBelow, IsPrevious}
 use Rattle.intervals.proofs.Find.{value_at-none, before-none, first-other}
 use Rattle.intervals.proofs.Runs.{ends_below_le}

@@ -6,7 +6,8 @@ use Rattle.std.proofs.lemmas.Bool.{cases_lt}
 use Rattle.intervals.specs.declared.byte_run.ByteRun.{ByteRun}
 use Rattle.intervals.specs.declared.row.Row.{Row}
 use Rattle.intervals.specs.rule.Bytes.{Range, greatest, put}
-use Rattle.intervals.specs.code.Runs.{value_at, AreRuns, EndsBelow}
+use Rattle.intervals.specs.code.Runs.{AreRuns, EndsBelow}
+use Rattle.intervals.specs.rule.Runs.{value_at}
 use Rattle.intervals.specs.code.Entries.{BeginAbove}
 use Rattle.intervals.specs.code.Parts.{all_runs, AreSome, BeginsTo, row_runs, runs_below, part_at, runs_above, runs_to, runs_within, IsPut, IsRewritten}
 use Rattle.intervals.proofs.Runs.{drop_read}

@@ -4,7 +4,8 @@ use Rattle.std.proofs.lemmas.List.{append_assoc}
 use Rattle.intervals.specs.declared.byte_run.ByteRun.{ByteRun}
 use Rattle.intervals.specs.declared.row.Row.{Row}
 use Rattle.intervals.specs.rule.Bytes.{Range, greatest, IsRun, IsBarred, IsFirstIn, NoneIn}
-use Rattle.intervals.specs.code.Runs.{bytes_of, value_at, IsBarredValue, AreRuns, EndsBelow, EndsFrom}
+use Rattle.intervals.specs.code.Runs.{IsBarredValue, AreRuns, EndsBelow, EndsFrom}
+use Rattle.intervals.specs.rule.Runs.{bytes_of, value_at}
 use Rattle.intervals.specs.code.Entries.{BeginAbove, IsLastTo, NoneFrom, IsNext}
 use Rattle.intervals.specs.code.Parts.{all_runs, AreSome, BeginsTo, row_runs, runs_below, part_at, runs_above}
 use Rattle.intervals.proofs.Find.{BarredLeft, value_at-none, barred-along, left-skip, left-first, left-stop, left-none}

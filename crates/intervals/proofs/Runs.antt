@@ -5,7 +5,8 @@ use Rattle.std.proofs.lemmas.Bool.Decides.{nat_tests}
 use Rattle.std.proofs.lemmas.Grind.{common_steps}
 use Rattle.intervals.specs.declared.byte_run.ByteRun.{ByteRun}
 use Rattle.intervals.specs.rule.Bytes.{put}
-use Rattle.intervals.specs.code.Runs.{bytes_of, value_at, Follows, AreRuns, EndsBelow}
+use Rattle.intervals.specs.code.Runs.{Follows, AreRuns, EndsBelow}
+use Rattle.intervals.specs.rule.Runs.{bytes_of, value_at}
 use Rattle.intervals.proofs.Join.{joins, join}
 
 -- runs that end below m end below each greater number

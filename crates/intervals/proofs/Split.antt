@@ -5,7 +5,8 @@ use Rattle.std.proofs.lemmas.List.{get_or_default}
 use Rattle.std.specs.List.Sorted.{IsNonDecreasingBy}
 use Rattle.intervals.specs.declared.byte_run.ByteRun.{ByteRun}
 use Rattle.intervals.specs.rule.Bytes.{Range, IsBarred, IsFirstIn, IsRun, NoneIn}
-use Rattle.intervals.specs.code.Runs.{bytes_of, value_at, AreRuns, EndsBelow, EndsFrom}
+use Rattle.intervals.specs.code.Runs.{AreRuns, EndsBelow, EndsFrom}
+use Rattle.intervals.specs.rule.Runs.{bytes_of, value_at}
 use Rattle.intervals.proofs.Find.{value_at-none, first-other, before-none, first-is_run, lift-is_run, barred-along}
 
 -- a later run ends above the first

@@ -4,7 +4,8 @@ use Rattle.std.proofs.lemmas.Bool.{cases_lt, cases_order, cases_Bool}
 use Rattle.std.proofs.lemmas.Bool.Decides.{nat_tests}
 use Rattle.intervals.specs.declared.byte_run.ByteRun.{ByteRun}
 use Rattle.intervals.specs.rule.Bytes.{greatest, begins_after, is_start, starts_below, all_bytes, number_of_runs}
-use Rattle.intervals.specs.code.Runs.{value_at, Follows, AreRuns, EndsBelow}
+use Rattle.intervals.specs.code.Runs.{Follows, AreRuns, EndsBelow}
+use Rattle.intervals.specs.rule.Runs.{value_at}
 use Rattle.intervals.proofs.Find.{after-none, before-none, first-some, first-other, next-other, value_at-none}
 
 -- a run of the list begins at the byte

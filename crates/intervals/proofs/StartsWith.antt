@@ -5,7 +5,8 @@ use Rattle.std.proofs.lemmas.Bool.Decides.{nat_tests}
 use Rattle.std.specs.List.Sorted.{IsNonDecreasingBy}
 use Rattle.intervals.specs.declared.byte_run.ByteRun.{ByteRun}
 use Rattle.intervals.specs.rule.Bytes.{Range, greatest, put, begins_after, is_start, starts_below, all_bytes, number_of_runs}
-use Rattle.intervals.specs.code.Runs.{value_at, AreRuns, EndsBelow}
+use Rattle.intervals.specs.code.Runs.{AreRuns, EndsBelow}
+use Rattle.intervals.specs.rule.Runs.{value_at}
 use Rattle.intervals.proofs.Runs.{at-below}
 use Rattle.intervals.proofs.Starts.{begin_below, begin_below_few, starts_below_are, number_of_runs-length}
 

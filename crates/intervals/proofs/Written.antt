@@ -4,7 +4,8 @@ use Rattle.std.proofs.lemmas.Bool.{cases_lt}
 use Rattle.std.proofs.lemmas.Bool.Decides.{nat_tests}
 use Rattle.intervals.specs.declared.byte_run.ByteRun.{ByteRun}
 use Rattle.intervals.specs.rule.Bytes.{put}
-use Rattle.intervals.specs.code.Runs.{value_at, Follows, AreRuns, EndsBelow}
+use Rattle.intervals.specs.code.Runs.{Follows, AreRuns, EndsBelow}
+use Rattle.intervals.specs.rule.Runs.{value_at}
 use Rattle.intervals.proofs.Find.{after-none, next-other, first-some}
 
 -- two lists of runs that end below byte n end below it together

@@ -1,3 +1,4 @@
 pub mod Search
 pub mod Bytes
 pub mod Segment
+pub mod Runs

@@ -1,7 +1,8 @@
 //! Runs of bytes that have one value, and searches in sorted vectors of them.
 ghost use Rattle.std.specs.Prelude.{◌≡◌, ◌≤◌, ◌<◌, ◌+◌, ◌++◌, take, drop, length, if◌then◌else◌, Some, IsTrue, ◌↔◌, MatchOption};
 ghost use Rattle.intervals.specs.rule.Bytes.{begins_after, starts_below, IsBarred};
-ghost use Rattle.intervals.specs.code.Runs.{value_at, IsBarredValue, AreRuns, EndsBelow, EndsFrom, IsLowestFree, IsHighestFree};
+ghost use Rattle.intervals.specs.code.Runs.{IsBarredValue, AreRuns, EndsBelow, EndsFrom, IsLowestFree, IsHighestFree};
+ghost use Rattle.intervals.specs.rule.Runs.{value_at};
 ghost use Rattle.intervals.specs.code.Entries.{BeginAbove, IsLastTo};
 
 use crate::span_map::Exact;

@@ -2,7 +2,8 @@
 ghost use Rattle.std.specs.Prelude.{◌≡◌, ◌≤◌, ◌<◌, ◌+◌, ◌++◌, [], ℕ, ◌==◌, length, IfOk};
 ghost use Rattle.std.specs.Vec.{vec_len, vec_capacity};
 ghost use Rattle.intervals.specs.rule.Bytes.{greatest, put};
-ghost use Rattle.intervals.specs.code.Runs.{begins_at, value_at, AreRuns, EndsBelow};
+ghost use Rattle.intervals.specs.code.Runs.{begins_at, AreRuns, EndsBelow};
+ghost use Rattle.intervals.specs.rule.Runs.{value_at};
 
 use crate::byte_run::ByteRun;
 use crate::byte_run::writes::{append_all, write};

@@ -2,7 +2,8 @@
 ghost use Rattle.std.specs.Prelude.{◌≡◌, true, ◌≤◌, ◌<◌, ◌+◌, ◌-◌, ◌++◌, ◌↔◌, [], ◌∷◌, drop, length, IfOk, IfSome, IsTrue, MatchOption};
 ghost use Rattle.std.specs.Vec.{vec_len};
 ghost use Rattle.intervals.specs.rule.Bytes.{greatest, starts_below};
-ghost use Rattle.intervals.specs.code.Runs.{value_at, AreRuns, EndsBelow};
+ghost use Rattle.intervals.specs.code.Runs.{AreRuns, EndsBelow};
+ghost use Rattle.intervals.specs.rule.Runs.{value_at};
 ghost use Rattle.intervals.specs.code.Entries.{BeginAbove};
 ghost use Rattle.intervals.specs.code.Parts.{all_runs, AreSome, BeginsTo, row_runs, runs_below, part_at, runs_above, runs_within};
 

@@ -3,7 +3,7 @@
 //! Each function here that can fail errs with `AllocError`, where a request for memory was refused.
 ghost use Rattle.std.specs.Prelude.{◌≡◌, ◌≤◌, ◌+◌, ℕ, nat_le, length, None, [], IfOk, MatchOption};
 ghost use Rattle.intervals.specs.rule.Bytes.{greatest, nothing, number_of_runs, put, IsRun, IsBarred, NoneIn, IsFirstIn, IsLargest};
-ghost use Rattle.intervals.specs.code.Runs.{bytes_of, value_at};
+ghost use Rattle.intervals.specs.rule.Runs.{bytes_of, value_at};
 ghost use Rattle.intervals.specs.code.Edits.{written};
 ghost use Rattle.intervals.specs.code.Entries.{NoneFrom, IsNext};
 

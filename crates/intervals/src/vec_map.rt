@@ -3,7 +3,7 @@
 //! Each function here that can fail errs with `AllocError`, where a request for memory was refused.
 ghost use Rattle.std.specs.Prelude.{◌≡◌, ◌≤◌, ◌<◌, ◌+◌, ℕ, nat_le, length, [], IfOk, OnOk, OnErr, IsTrue, ◌↔◌, MatchOption, Some, None};
 ghost use Rattle.intervals.specs.rule.Bytes.{greatest, nothing, number_of_runs, put, IsBarred, NoneIn, IsFirstIn, IsLargest, IsRun};
-ghost use Rattle.intervals.specs.code.Runs.{bytes_of, value_at};
+ghost use Rattle.intervals.specs.rule.Runs.{bytes_of, value_at};
 ghost use Rattle.intervals.specs.code.Edits.{written};
 
 use crate::byte_run::writes::write;

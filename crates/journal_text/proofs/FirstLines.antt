@@ -1,7 +1,7 @@
 -- The first lines of texts that begin as journals do.
 use Rattle.std.proofs.Common.{◌≡◌, List, [], ◌++◌, ℕ, map, None, subst}
 use Rattle.std.specs.List.{flat_map}
-use Rattle.messages.specs.code.Entries.{EntryFields}
+use Rattle.messages.specs.rule.Entries.{EntryFields}
 use Rattle.messages.specs.rule.Shapes.{IsShape, ShapeFields}
 use Rattle.messages.specs.declared.version.Version.TheVariants.{First}
 use Rattle.texts.specs.rule.FirstBadLine.{Passes}

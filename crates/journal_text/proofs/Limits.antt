@@ -12,7 +12,7 @@ use Rattle.model.specs.declared.op.Op.TheVariants as op
 use Rattle.model.specs.declared.op.ProcessCall.TheVariants.{Spawn, Fork, Open, Dup}
 use Rattle.model.specs.declared.reply.Reply.{Reply}
 use Rattle.model.specs.rule.Limits.{IsCall, IsHost, IsNumber, most_nodes, most_processes}
-use Rattle.messages.specs.code.Entries.{EntryFields, NamesItsCall, NamesItsIncarnation}
+use Rattle.messages.specs.rule.Entries.{EntryFields, NamesItsCall, NamesItsIncarnation}
 use Rattle.messages.specs.rule.Epochs.{IsCommand}
 use Rattle.messages.specs.rule.Messages.{addressee, greatest_number, is_among, is_within}
 use Rattle.messages.specs.rule.Shapes.{IsShape, ShapeFields, most_files}

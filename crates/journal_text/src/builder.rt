@@ -2,7 +2,7 @@
 //!
 //! Each function here that can fail errs with `AllocError`, where a request for memory was refused.
 ghost use Rattle.std.specs.Prelude.{◌≡◌, [], List, Some, None, IfOk, OnOk};
-ghost use Rattle.messages.specs.code.Entries.{EntryFields, NamesItsIncarnation};
+ghost use Rattle.messages.specs.rule.Entries.{EntryFields, NamesItsIncarnation};
 ghost use Rattle.messages.specs.rule.Shapes.{ShapeFields};
 ghost use Rattle.journal_text.specs.code.Built.{answered, built, closed, fields, sending};
 ghost use Rattle.journal_text.specs.rule.Events.{event_of, incarnation_of};

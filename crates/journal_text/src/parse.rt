@@ -1,6 +1,6 @@
 //! Reads whole journals from texts, and measures them.
 ghost use Rattle.std.specs.Prelude.{◌≡◌, ◌≢◌, ◌↔◌, [], List, length, IfErr, IfOk, IsTrue};
-ghost use Rattle.messages.specs.code.Entries.{EntryFields};
+ghost use Rattle.messages.specs.rule.Entries.{EntryFields};
 ghost use Rattle.lockscript.specs.declared.error.ParseError.TheVariants.{NoMemory};
 ghost use Rattle.journal_text.specs.rule.Readings.{BeginsAs, HasLength, IsBadLine, IsOld, IsRefused, WritesJournal};
 

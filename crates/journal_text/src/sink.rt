@@ -2,7 +2,7 @@
 //!
 //! Each function here that can fail errs with `AllocError`, where a request for memory was refused.
 ghost use Rattle.std.specs.Prelude.{◌≡◌, ◌++◌, ◌∷◌, [], List, ⊤, OnOk};
-ghost use Rattle.messages.specs.code.Entries.{EntryFields};
+ghost use Rattle.messages.specs.rule.Entries.{EntryFields};
 ghost use Rattle.messages.specs.rule.Shapes.{ShapeFields};
 
 use messages::entry::Entry;

@@ -7,7 +7,8 @@ use Rattle.model.specs.declared.mode.Mode.{Mode}
 use Rattle.model.specs.declared.owner.Owner.{Owner}
 use Rattle.model.specs.rule.Locks.{FileLocks}
 use Rattle.lock_table.specs.declared.owner_locks.OwnerLocks.{OwnerLocks}
-use Rattle.lock_table.specs.code.Rows.{all_rows, rows_held, AreRows}
+use Rattle.lock_table.specs.code.Rows.{AreRows}
+use Rattle.lock_table.specs.rule.Tables.{all_rows, rows_held}
 use Rattle.lock_table.proofs.RowLemmas.{is_of, row_place, held-none}
 use Rattle.lock_table.proofs.BlockerLemmas.{IsJoin}
 use Rattle.lock_table.proofs.BlockRows.{all_split, all_push, after-back, rows-back, rows_to}

@@ -13,7 +13,8 @@ use Rattle.std.proofs.lemmas.List.Edits.{insert-append_left, remove-append_left}
 use Rattle.model.specs.declared.owner.Owner.{Owner}
 use Rattle.lock_table.specs.declared.owner_locks.OwnerLocks.{OwnerLocks}
 use Rattle.lock_table.specs.declared.place.Place.{Place}
-use Rattle.lock_table.specs.code.Rows.{all_rows, row_cmp, AllAfter, AreRows, IsRowAt, IsGap}
+use Rattle.lock_table.specs.code.Rows.{row_cmp, AllAfter, AreRows, IsRowAt, IsGap}
+use Rattle.lock_table.specs.rule.Tables.{all_rows}
 use Rattle.lock_table.specs.code.Blocks.{AreSome, AllBefore, rows_before, IsRowIn, IsRowOf, IsPlaced}
 use Rattle.lock_table.proofs.Orders.{place_cmp, places_total, back_less}
 use Rattle.lock_table.proofs.RowLemmas.{all_after_trans, row_at_from, place_below}

@@ -9,7 +9,8 @@ use Rattle.std.proofs.lemmas.Bool.{cases_lt, cases_Bool, both_ways, false≢true
 use Rattle.std.proofs.lemmas.List.{drop_all, drop-drop, length-drop, length-take}
 use Rattle.model.specs.declared.owner.Owner.{Owner}
 use Rattle.lock_table.specs.declared.owner_locks.OwnerLocks.{OwnerLocks}
-use Rattle.lock_table.specs.code.Rows.{all_rows, rows_held, mark_of, row_cmp, AllAfter, AreRows, IsGap}
+use Rattle.lock_table.specs.code.Rows.{mark_of, row_cmp, AllAfter, AreRows, IsGap}
+use Rattle.lock_table.specs.rule.Tables.{all_rows, rows_held}
 use Rattle.lock_table.specs.code.Blocks.{AreSome, AllBefore, begins_to, first_file, IsGapIn}
 use Rattle.lock_table.proofs.Orders.{Place as Key, place_cmp, places_total, back_less, cases_not_greater}
 use Rattle.lock_table.proofs.RowLemmas.{is_of, all_after_trans, held-none}

@@ -5,14 +5,15 @@ use Rattle.std.proofs.lemmas.Bool.{both_ways}
 use Rattle.std.proofs.lemmas.List.{length-set, get_or-set_same, get_or_default}
 use Rattle.intervals.specs.declared.span_edit.SpanEdit.{SpanEdit}
 use Rattle.intervals.specs.rule.Bytes.{put}
-use Rattle.intervals.specs.code.Runs.{value_at}
+use Rattle.intervals.specs.rule.Runs.{value_at}
 use Rattle.model.specs.declared.mode.Mode.{Mode}
 use Rattle.model.specs.declared.owner.Owner.{Owner}
 use Rattle.lock_table.specs.declared.owner_locks.OwnerLocks.{OwnerLocks}
 use Rattle.lock_table.specs.declared.page_index.PageIndex.{PageIndex}
 use Rattle.lock_table.specs.declared.place.Place.{Place}
 use Rattle.lock_table.specs.code.Pages.{MayHold, Covers}
-use Rattle.lock_table.specs.code.Rows.{all_rows, rows_held, AreRows, IsRowAt, HoldsSome}
+use Rattle.lock_table.specs.code.Rows.{AreRows, IsRowAt, HoldsSome}
+use Rattle.lock_table.specs.rule.Tables.{all_rows, rows_held}
 use Rattle.lock_table.specs.code.Blocks.{AreSome, rows_before, IsRowIn, RunsFit, IsRowWritten}
 use Rattle.lock_table.proofs.RowLemmas.{place_below, row_alone}
 use Rattle.lock_table.proofs.Writes.{remove-set, IsLeft, row_set, row_gone}

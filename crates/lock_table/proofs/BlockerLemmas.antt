@@ -5,7 +5,7 @@ use Rattle.std.specs.declared.cmp.Ordering.TheVariants.{Less, Greater}
 use Rattle.std.proofs.lemmas.Bool.{cases_lt, cases_Bool, and_from, and_right, both_ways, false≢true}
 use Rattle.std.proofs.lemmas.List.{take_more}
 use Rattle.intervals.specs.rule.Bytes.{Range, nothing, IsRun, IsBarred, NoneIn}
-use Rattle.intervals.specs.code.Runs.{value_at}
+use Rattle.intervals.specs.rule.Runs.{value_at}
 use Rattle.intervals.proofs.SpanLaws.{runs_are_one}
 use Rattle.model.specs.declared.mode.Mode.{Mode}
 use Rattle.model.specs.declared.mode.Mode.TheVariants.{Read, Write}
@@ -15,7 +15,8 @@ use Rattle.model.specs.rule.Owners.{same_owner, owner_cmp}
 use Rattle.model.specs.rule.Locks.{bar_of, FileLocks, excludes, bars, IsFree, IsRegion, IsNotAfter, IsLowestBlocker, IsClear, IsInWay, IsLowestInWay}
 use Rattle.lock_table.specs.declared.owner_locks.OwnerLocks.{OwnerLocks}
 use Rattle.lock_table.specs.code.Regions.{IsFirstRegion}
-use Rattle.lock_table.specs.code.Rows.{rows_held, row_cmp, AllAfter, AreRows, locks_of}
+use Rattle.lock_table.specs.code.Rows.{row_cmp, AllAfter, AreRows, locks_of}
+use Rattle.lock_table.specs.rule.Tables.{rows_held}
 use Rattle.lock_table.specs.code.Blockers.{IsAsked, IsClearBut, IsRegionBut, IsLowestBut}
 use Rattle.model.proofs.OwnerLaws.{owner_exact, owner_refl}
 use Rattle.lock_table.proofs.Orders.{owners_total, owner_equal, owner_not_greater, not_greater_trans, cases_not_greater, back_greater, place_cmp, places_total, back_less}

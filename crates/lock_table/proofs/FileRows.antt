@@ -8,7 +8,8 @@ use Rattle.std.proofs.lemmas.List.{length-take, length-drop, get_or-take, get_or
 use Rattle.model.specs.declared.owner.Owner.{Owner}
 use Rattle.model.specs.rule.Owners.{same_owner}
 use Rattle.lock_table.specs.declared.owner_locks.OwnerLocks.{OwnerLocks}
-use Rattle.lock_table.specs.code.Rows.{rows_held, mark_of, row_cmp, AllAfter, AreRows}
+use Rattle.lock_table.specs.code.Rows.{mark_of, row_cmp, AllAfter, AreRows}
+use Rattle.lock_table.specs.rule.Tables.{rows_held}
 
 -- a row behind a place has the same mark or a greater one
 pub after_mark : (r : OwnerLocks) (f : ℕ) (o : Owner) → row_cmp r f o ≡ Greater → mark_of f o ≤ mark_of r.file r.owner

@@ -13,7 +13,7 @@ use Rattle.std.proofs.lemmas.List.Elements.{All-nil, All-append, All-push, All-w
 use Rattle.std.proofs.lemmas.List.Sorted.{ranks_by, sorted_far, All-permutation, Contains-permutation}
 use Rattle.std.proofs.lemmas.Map.Keys.{IsDistinct-IsPermutation}
 use Rattle.intervals.specs.rule.Bytes.{nothing, IsRun}
-use Rattle.intervals.specs.code.Runs.{value_at}
+use Rattle.intervals.specs.rule.Runs.{value_at}
 use Rattle.intervals.proofs.SpanLaws.{runs_are_one}
 use Rattle.model.specs.declared.mode.Mode.{Mode}
 use Rattle.model.specs.declared.lock_info.LockInfo.{LockInfo}
@@ -22,7 +22,8 @@ use Rattle.model.specs.rule.Locks.{FileLocks, IsRegion}
 use Rattle.lock_table.specs.declared.owner_locks.OwnerLocks.{OwnerLocks}
 use Rattle.lock_table.specs.code.Regions.{rest_from, IsFirstRegion}
 use Rattle.lock_table.specs.code.Rows.{locks_of, NothingFrom}
-use Rattle.lock_table.specs.code.Listing.{IsBefore, IsListing, lock_cmp, same_start, ListsRegions}
+use Rattle.lock_table.specs.code.Listing.{lock_cmp}
+use Rattle.lock_table.specs.rule.Listing.{IsBefore, IsListing, same_start, ListsRegions}
 use Rattle.model.proofs.OwnerLaws.{owner_exact, owner_refl}
 use Rattle.lock_table.proofs.Orders.{owners_total, owner_equal, nat_cmp_less, nat_cmp_equal, then_less, then_equal, back_less}
 use Rattle.lock_table.proofs.BlockerLemmas.{IsJoin, region_left, region_right, region_cases, owners_apart, region_own, own_region, lock_one}

@@ -9,7 +9,7 @@ use Rattle.model.specs.declared.owner.Owner.{Owner}
 use Rattle.model.specs.declared.lock_info.LockInfo.{LockInfo}
 use Rattle.model.specs.rule.Owners.{same_owner, owner_cmp}
 use Rattle.model.specs.rule.Locks.{FileLocks}
-use Rattle.lock_table.specs.code.Listing.{IsBefore, IsListing, same_start, ListsRegions}
+use Rattle.lock_table.specs.rule.Listing.{IsBefore, IsListing, same_start, ListsRegions}
 use Rattle.model.proofs.OwnerLaws.{owner_exact}
 use Rattle.lock_table.proofs.Orders.{owners_total}
 

@@ -10,9 +10,11 @@ use Rattle.model.specs.declared.lock_info.LockInfo.{LockInfo}
 use Rattle.model.specs.rule.Locks.{IsRegion}
 use Rattle.lock_table.specs.declared.owner_locks.OwnerLocks.{OwnerLocks}
 use Rattle.lock_table.specs.declared.owner_set.OwnerSet.{OwnerSet}
-use Rattle.lock_table.specs.code.Blockers.{IsLowestBut, HasInWay, AreNear}
+use Rattle.lock_table.specs.code.Blockers.{IsLowestBut, AreNear}
+use Rattle.lock_table.specs.rule.Listing.{HasInWay}
 use Rattle.lock_table.specs.code.Pages.{Has, flag_of}
-use Rattle.lock_table.specs.code.Rows.{rows_held, mark_of, AreRows, ArePassed}
+use Rattle.lock_table.specs.code.Rows.{mark_of, AreRows, ArePassed}
+use Rattle.lock_table.specs.rule.Tables.{rows_held}
 use Rattle.lock_table.proofs.BlockerLemmas.{row_passed, rows_step, lowest_past}
 use Rattle.lock_table.proofs.FileRows.{marks_rise, some_row}
 use Rattle.lock_table.proofs.PageLemmas.{none_near}

@@ -5,14 +5,15 @@ use Rattle.std.proofs.lemmas.Bool.{cases_Bool, and_parts, eqb-true}
 use Rattle.std.proofs.lemmas.Bool.Decides.{nat_tests}
 use Rattle.std.proofs.lemmas.List.{get_or_default, drop_all}
 use Rattle.intervals.specs.rule.Bytes.{Range, nothing, is_in, put}
-use Rattle.intervals.specs.code.Runs.{value_at}
+use Rattle.intervals.specs.rule.Runs.{value_at}
 use Rattle.model.specs.declared.mode.Mode.{Mode}
 use Rattle.model.specs.declared.owner.Owner.{Owner}
 use Rattle.model.specs.rule.Locks.{FileLocks, Locks, replace, without_owner_anywhere}
 use Rattle.model.specs.rule.Owners.{same_owner}
 use Rattle.lock_table.specs.declared.owner_locks.OwnerLocks.{OwnerLocks}
 use Rattle.lock_table.specs.declared.page_index.PageIndex.{PageIndex}
-use Rattle.lock_table.specs.code.Rows.{rows_held, AreRows}
+use Rattle.lock_table.specs.code.Rows.{AreRows}
+use Rattle.lock_table.specs.rule.Tables.{rows_held}
 use Rattle.lock_table.proofs.RowLemmas.{is_of, row_place, row_at_from, held-at}
 use Rattle.model.proofs.OwnerLaws.{owner_exact}
 use Rattle.lock_table.proofs.Orders.{place_itself}

@@ -7,12 +7,13 @@ use Rattle.std.specs.declared.cmp.Ordering.TheVariants.{Less, Equal, Greater}
 use Rattle.std.proofs.lemmas.Bool.{cases_Bool, and_parts, and_from, and_right, eqb-true, both_ways}
 use Rattle.std.proofs.lemmas.List.Sorted.{searchable_from_sorted}
 use Rattle.intervals.specs.rule.Bytes.{nothing}
-use Rattle.intervals.specs.code.Runs.{value_at}
+use Rattle.intervals.specs.rule.Runs.{value_at}
 use Rattle.model.specs.declared.owner.Owner.{Owner}
 use Rattle.model.specs.rule.Locks.{replace, without_owner_anywhere}
 use Rattle.model.specs.rule.Owners.{same_owner}
 use Rattle.lock_table.specs.declared.owner_locks.OwnerLocks.{OwnerLocks}
-use Rattle.lock_table.specs.code.Rows.{rows_held, row_cmp, HoldsSome, AllAfter, AreRows, IsRowAt, IsGap}
+use Rattle.lock_table.specs.code.Rows.{row_cmp, HoldsSome, AllAfter, AreRows, IsRowAt, IsGap}
+use Rattle.lock_table.specs.rule.Tables.{rows_held}
 use Rattle.model.proofs.OwnerLaws.{owner_exact, owner_refl}
 use Rattle.lock_table.proofs.Orders.{place_cmp, places_total, place_equal, place_itself, back_less, back_greater, greater_trans}
 

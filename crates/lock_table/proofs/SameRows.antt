@@ -6,11 +6,12 @@ use Rattle.std.specs.declared.cmp.Ordering.TheVariants.{Less, Equal, Greater}
 use Rattle.std.proofs.lemmas.Bool.{cases_Bool, and_from}
 use Rattle.std.proofs.lemmas.List.{drop_more}
 use Rattle.intervals.specs.rule.Bytes.{nothing}
-use Rattle.intervals.specs.code.Runs.{value_at}
+use Rattle.intervals.specs.rule.Runs.{value_at}
 use Rattle.model.specs.declared.owner.Owner.{Owner}
 use Rattle.model.specs.rule.Owners.{same_owner}
 use Rattle.lock_table.specs.declared.owner_locks.OwnerLocks.{OwnerLocks}
-use Rattle.lock_table.specs.code.Rows.{rows_held, TableParts, row_cmp, AllAfter, AreRows, IsSameRow}
+use Rattle.lock_table.specs.code.Rows.{row_cmp, AllAfter, AreRows, IsSameRow}
+use Rattle.lock_table.specs.rule.Tables.{rows_held, TableParts}
 use Rattle.model.proofs.OwnerLaws.{owner_refl}
 use Rattle.lock_table.proofs.Orders.{place_cmp, places_total, place_equal, back_greater}
 use Rattle.lock_table.proofs.RowLemmas.{is_of, row_place, all_after_trans, held-none}

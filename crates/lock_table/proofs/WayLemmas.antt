@@ -3,7 +3,7 @@ use Rattle.std.proofs.Common.{◌≡◌, ℕ, ◌+◌, ◌<◌, ◌≤◌, ◌�
 use Rattle.std.specs.List.{All}
 use Rattle.std.proofs.lemmas.Bool.{cases_lt, both_ways}
 use Rattle.intervals.specs.rule.Bytes.{Range, greatest, nothing, run_from, IsRun, IsBarred, NoneIn, IsLargest}
-use Rattle.intervals.specs.code.Runs.{value_at}
+use Rattle.intervals.specs.rule.Runs.{value_at}
 use Rattle.intervals.proofs.Find.{not_barred-none}
 use Rattle.model.specs.declared.mode.Mode.{Mode}
 use Rattle.model.specs.declared.owner.Owner.{Owner}
@@ -11,8 +11,9 @@ use Rattle.model.specs.rule.Owners.{same_mode}
 use Rattle.model.specs.rule.Locks.{bar_of, FileLocks, excludes, bars, IsRegion, IsClear}
 use Rattle.model.proofs.RunLaws.{some_start, run_from-is_run}
 use Rattle.lock_table.specs.declared.owner_locks.OwnerLocks.{OwnerLocks}
-use Rattle.lock_table.specs.code.Rows.{rows_held, AreRows, IsBounded, locks_of}
-use Rattle.lock_table.specs.code.Blockers.{HasInWay}
+use Rattle.lock_table.specs.code.Rows.{AreRows, IsBounded, locks_of}
+use Rattle.lock_table.specs.rule.Tables.{rows_held}
+use Rattle.lock_table.specs.rule.Listing.{HasInWay}
 use Rattle.lock_table.proofs.BlockerLemmas.{IsJoin, region_left, region_right, region_cases, region_own, own_region, nothing_region, barred_from, excluded_from}
 use Rattle.lock_table.proofs.LargestLaws.{IsLargest-iff, IsLargest-or, IsLargest-whole}
 use Rattle.lock_table.proofs.PageLemmas.{row_held}

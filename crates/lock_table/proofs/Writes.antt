@@ -6,14 +6,15 @@ use Rattle.intervals.specs.declared.byte_run.ByteRun.{ByteRun}
 use Rattle.intervals.specs.declared.span_edit.SpanEdit.{SpanEdit}
 use Rattle.intervals.specs.rule.Bytes.{nothing, put}
 use Rattle.intervals.specs.code.Edits.{written}
-use Rattle.intervals.specs.code.Runs.{value_at}
+use Rattle.intervals.specs.rule.Runs.{value_at}
 use Rattle.model.specs.declared.mode.Mode.{Mode}
 use Rattle.model.specs.declared.owner.Owner.{Owner}
 use Rattle.model.specs.rule.Locks.{replace, with_lock}
 use Rattle.lock_table.specs.declared.owner_locks.OwnerLocks.{OwnerLocks}
 use Rattle.lock_table.specs.declared.page_index.PageIndex.{PageIndex}
 use Rattle.lock_table.specs.code.Pages.{MayHold, Covers}
-use Rattle.lock_table.specs.code.Rows.{rows_held, AreRows, IsRowAt, IsGap, HoldsSome}
+use Rattle.lock_table.specs.code.Rows.{AreRows, IsRowAt, IsGap, HoldsSome}
+use Rattle.lock_table.specs.rule.Tables.{rows_held}
 use Rattle.lock_table.proofs.RowLemmas.{held-at, held-gap, held-set, held-insert, held-remove, held-same, rows-set, rows-insert, rows-remove, place_of}
 use Rattle.lock_table.proofs.PageLemmas.{covers-changed}
 

@@ -1,1 +1,2 @@
 pub mod code
+pub mod rule

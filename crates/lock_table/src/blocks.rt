@@ -2,7 +2,7 @@
 ghost use Rattle.std.specs.Prelude.{◌≡◌, ◌≤◌, ◌<◌, ◌+◌, ◌-◌, ◌^◌, ◌⊎◌, not, [], length, get_or, take, insert, remove, filter, IfOk};
 ghost use Rattle.std.specs.Vec.{vec_len, vec_capacity};
 ghost use Rattle.model.specs.rule.Owners.{same_owner};
-ghost use Rattle.lock_table.specs.code.Rows.{all_rows};
+ghost use Rattle.lock_table.specs.rule.Tables.{all_rows};
 ghost use Rattle.lock_table.specs.code.Blocks.{AreSome, HasRoom, rows_before};
 
 use crate::block::Block;

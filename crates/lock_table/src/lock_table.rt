@@ -4,7 +4,8 @@ ghost use Rattle.intervals.specs.rule.Bytes.{nothing, put};
 ghost use Rattle.model.specs.rule.Locks.{no_locks, with_lock, without_owner, without_owner_anywhere, regions};
 ghost use Rattle.model.specs.declared.mode.Mode.{Mode as SomeMode};
 ghost use Rattle.lock_table.specs.declared.error.LockError.TheVariants.{NoLocks};
-ghost use Rattle.lock_table.specs.code.Rows.{held, IsSameTable, HoldsLess};
+ghost use Rattle.lock_table.specs.code.Rows.{IsSameTable, HoldsLess};
+ghost use Rattle.lock_table.specs.rule.Tables.{held};
 ghost use Rattle.lock_table.specs.code.Pages.{HasFlag};
 
 use crate::block::Block;
@@ -43,7 +44,8 @@ pub struct LockTable {
 }
 
 impl Model for LockTable {
-    ghost use Rattle.lock_table.specs.code.Rows.{TableParts, AreRows, all_rows, rows_held};
+    ghost use Rattle.lock_table.specs.code.Rows.{AreRows};
+    ghost use Rattle.lock_table.specs.rule.Tables.{TableParts, all_rows, rows_held};
     ghost use Rattle.lock_table.specs.code.Blocks.{AreSome};
     ghost use Rattle.lock_table.specs.code.Pages.{Covers};
 

@@ -1,12 +1,12 @@
 //! The rows of a lock table: what one owner holds in one file.
 ghost use Rattle.std.specs.Prelude.{◌≡◌, ℕ, ◌++◌, List, None, Some, false, IsTrue, ◌↔◌, IfOk, OnOk, MatchOption};
 ghost use Rattle.intervals.specs.rule.Bytes.{IsBarred, IsRun, NoneIn};
-ghost use Rattle.intervals.specs.code.Runs.{value_at};
+ghost use Rattle.intervals.specs.rule.Runs.{value_at};
 ghost use Rattle.lock_table.specs.code.Rows.{mark_cmp, IsSameRow, locks_of, IsBounded, NothingFrom};
 ghost use Rattle.lock_table.specs.code.Regions.{rest_from, IsFirstRegion};
 ghost use Rattle.lock_table.specs.code.Blockers.{IsLowestBut};
 ghost use Rattle.lock_table.specs.code.Pages.{Has};
-ghost use Rattle.lock_table.specs.code.Listing.{ListsRegions};
+ghost use Rattle.lock_table.specs.rule.Listing.{ListsRegions};
 
 use crate::owner_set::{OwnerSet, mark_of};
 use crate::owner_spans::OwnerSpans;

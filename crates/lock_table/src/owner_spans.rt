@@ -3,7 +3,7 @@
 //! Each function here that can fail errs with `AllocError`, where a request for memory was refused.
 ghost use Rattle.std.specs.Prelude.{◌≡◌, ◌≤◌, ◌<◌, ◌↔◌, ℕ, nat_le, length, None, [], IfOk, IsTrue, MatchOption};
 ghost use Rattle.intervals.specs.rule.Bytes.{greatest, nothing, put, IsBarred, IsFirstIn, IsLargest, IsRun, NoneIn};
-ghost use Rattle.intervals.specs.code.Runs.{value_at};
+ghost use Rattle.intervals.specs.rule.Runs.{value_at};
 ghost use Rattle.intervals.specs.code.Edits.{written};
 ghost use Rattle.intervals.specs.code.Entries.{NoneFrom, IsNext};
 ghost use Rattle.model.specs.rule.Locks.{regions};
@@ -30,7 +30,7 @@ impl Model for OwnerSpans {
     ghost use Rattle.std.specs.Prelude.{◌≡◌, List, true};
     ghost use Rattle.intervals.specs.declared.byte_run.ByteRun.{ByteRun};
     ghost use Rattle.model.specs.declared.mode.Mode.{Mode as SomeMode};
-    ghost use Rattle.intervals.specs.code.Runs.{value_at};
+    ghost use Rattle.intervals.specs.rule.Runs.{value_at};
     ghost use Rattle.lock_table.specs.code.SharedSpans.{IsShared};
 
     ghost Value = { List (ByteRun SomeMode) };

@@ -3,10 +3,10 @@
 //! Each function here that can fail errs with `AllocError`, where a request for memory was refused.
 ghost use Rattle.std.specs.Prelude.{◌≡◌, ℕ, ◌+◌, ◌-◌, ◌<◌, ◌≤◌, ◌^◌, ◌⊎◌, Option, Some, IfOk, IfSome, IsTrue, ◌↔◌};
 ghost use Rattle.intervals.specs.rule.Bytes.{put};
-ghost use Rattle.intervals.specs.code.Runs.{value_at};
+ghost use Rattle.intervals.specs.rule.Runs.{value_at};
 ghost use Rattle.model.specs.declared.mode.Mode.{Mode as SomeMode};
 ghost use Rattle.model.specs.declared.owner.Owner.{Owner as SomeOwner};
-ghost use Rattle.lock_table.specs.code.Rows.{all_rows, rows_held};
+ghost use Rattle.lock_table.specs.rule.Tables.{all_rows, rows_held};
 ghost use Rattle.lock_table.specs.code.Pages.{Has, HasFlag, HasFile, MayHold, HasPage, IsKept, Covers, slot_of};
 
 use crate::block::Block;

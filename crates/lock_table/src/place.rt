@@ -1,7 +1,8 @@
 //! Places of rows in the blocks of a lock table, and the searches for them.
 ghost use Rattle.std.specs.Prelude.{◌≡◌, ◌≤◌, ◌<◌, ◌+◌, ◌++◌, ◌∷◌, [], true, nat_lt, All, IfSome, IsTrue, ◌↔◌, MatchOption, length, get_or, take, drop};
 ghost use Rattle.std.specs.List.{AllWithin, AllZip};
-ghost use Rattle.lock_table.specs.code.Rows.{all_rows, mark_of as mark_at, rows_held, AllAfter, AreRows, ArePassed, IsSameRow};
+ghost use Rattle.lock_table.specs.code.Rows.{mark_of as mark_at, AllAfter, AreRows, ArePassed, IsSameRow};
+ghost use Rattle.lock_table.specs.rule.Tables.{all_rows, rows_held};
 ghost use Rattle.lock_table.specs.code.Blocks.{AllBefore, AreSome, IsPlaced, IsRowOf};
 
 use crate::block::Block;

@@ -1,6 +1,6 @@
 -- Which incarnations events name.
 use Rattle.std.proofs.Common.{refl}
-use Rattle.messages.specs.code.Entries.{NamesItsIncarnation}
+use Rattle.messages.specs.rule.Entries.{NamesItsIncarnation}
 use Rattle.messages.specs.declared.version.Version.{Version}
 use Rattle.journal_text.specs.declared.named_event.NamedEvent.{NamedEvent}
 use Rattle.journal_text.specs.declared.named_event.NamedEvent.TheVariants.{Call, Deliver, Interrupt, Retry, Resend, Declare, Restart, Learn, FailServer, StartServer}

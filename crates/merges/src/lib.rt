@@ -14,5 +14,3 @@ mod names;
 mod queue;
 mod steps;
 pub mod stuck;
-#[cfg(test)]
-mod tests;

@@ -1,2 +1,1 @@
 pub mod KeptOutcomes
-pub mod Entries

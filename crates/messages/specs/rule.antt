@@ -6,3 +6,4 @@ pub mod Wants
 pub mod Messages
 pub mod Reports
 pub mod Refusals
+pub mod Entries

@@ -1,6 +1,6 @@
 //! The entries of the journal: an event with its reply and the messages that it sends.
 ghost use Rattle.std.specs.Prelude.{◌≡◌, ◌↔◌, IsTrue};
-ghost use Rattle.messages.specs.code.Entries.{NamesItsCall, NamesItsIncarnation, entry_of, kept_name};
+ghost use Rattle.messages.specs.rule.Entries.{NamesItsCall, NamesItsIncarnation, entry_of, kept_name};
 
 use crate::event::{Event, NodeInput};
 use crate::kept_outcome::KeptOutcome;
@@ -26,7 +26,7 @@ pub struct Entry {
 const _: () = prove!(size_of::<Entry>() == 72);
 
 impl Model for Entry {
-    ghost use Rattle.messages.specs.code.Entries.{EntryFields, kept, IsKept};
+    ghost use Rattle.messages.specs.rule.Entries.{EntryFields, kept, IsKept};
     ghost use Rattle.messages.specs.code.KeptOutcomes.{name_in, reply_in, messages_in};
 
     ghost Value = { EntryFields };

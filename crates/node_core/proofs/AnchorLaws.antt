@@ -17,8 +17,8 @@ use Rattle.model.specs.declared.reply.Reply.{Reply}
 use Rattle.model.specs.declared.reply.Reply.TheVariants.{Free, NoProcess}
 use Rattle.model.specs.rule.Limits.{IsNumber, most_processes}
 use Rattle.model.specs.rule.Locks.{no_locks, lowest_blocker}
-use Rattle.lock_table.specs.code.Rows.{held}
-use Rattle.descriptors.specs.code.Rows.{processes}
+use Rattle.lock_table.specs.rule.Tables.{held}
+use Rattle.descriptors.specs.rule.Rows.{processes}
 use Rattle.model.specs.rule.Descriptors.{Processes, no_processes, is_of_file, has_open, after}
 use Rattle.model.specs.rule.Table.{Table, LockTarget, empty_table, around, descriptor, is_running, beside, target, need_of, call_target, target_at, owner_of, lock_within, after_unlock, after_close, after_exit}
 use Rattle.model.specs.rule.Anchors.{Hangs, IsOwn}
@@ -47,7 +47,7 @@ use Rattle.node_core.specs.rule.Commands.{in_epoch, remembered, in_order, grante
 use Rattle.node_core.specs.rule.Interrupts.{interruption_of, interrupted, interrupt_rule}
 use Rattle.node_core.specs.rule.Retries.{retry_rule}
 use Rattle.node_core.specs.rule.Node.{node_rule}
-use Rattle.node_core.specs.code.Anchors.{Waits, AreAnchored, IsAnchored}
+use Rattle.node_core.specs.rule.Anchors.{Waits, AreAnchored, IsAnchored}
 use Rattle.node_core.specs.rule.Parts.{NodeParts, table_of}
 use Rattle.node_core.proofs.NodeLaws.{find-own, if-both, within, possible_call}
 

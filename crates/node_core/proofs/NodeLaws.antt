@@ -23,7 +23,8 @@ use Rattle.model.specs.rule.Locks.{no_locks, IsFree, IsLowestBlocker, lowest_blo
 use Rattle.model.proofs.BlockerLaws.{is_lowest_blocker}
 use Rattle.model.specs.rule.Descriptors.{Processes, after, no_processes, with_descriptor, lowest_fd, lowest_description, after_open, after_spawn, with_process, after_fork, after_dup, again_on}
 use Rattle.model.specs.rule.Table.{LockTarget, around, beside, with_processes, target_at}
-use Rattle.lock_table.specs.code.Rows.{TableParts, held, IsSameTable}
+use Rattle.lock_table.specs.code.Rows.{IsSameTable}
+use Rattle.lock_table.specs.rule.Tables.{TableParts, held}
 use Rattle.messages.specs.rule.Versions.{most_regions}
 use Rattle.token_set.specs.rule.Tokens.{Token, desired, holds_nothing}
 use Rattle.token_set.specs.rule.Releases.{IsRevocable, IsGivenUp, gave_up}
@@ -35,7 +36,8 @@ use Rattle.descriptors.specs.declared.error.FdError.{FdError}
 use Rattle.node_core.specs.declared.file_row.FileRow.{FileRow}
 use Rattle.node_core.specs.declared.open_call.OpenCall.{OpenCall}
 use Rattle.node_core.specs.rule.State.{NodeState, first_file, first_node, host, process}
-use Rattle.descriptors.specs.code.Rows.{processes, resolved, fd_reply}
+use Rattle.descriptors.specs.code.Rows.{resolved, fd_reply}
+use Rattle.descriptors.specs.rule.Rows.{processes}
 use Rattle.fcntl_table.proofs.TargetLaws.{target_in, target-err, target-ok, resolved_ok}
 use Rattle.node_core.specs.rule.Files.{file_state}
 use Rattle.node_core.specs.rule.Parts.{NodeParts, node_state, IsOwnCall, IsNode}

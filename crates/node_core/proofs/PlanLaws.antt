@@ -13,14 +13,14 @@ use Rattle.model.specs.rule.Table.{descriptor}
 use Rattle.model.proofs.Closings.{open_if, open_exited}
 use Rattle.fcntl_table.specs.rule.Hosts.{process_at, shown, with_host}
 use Rattle.fcntl_table.proofs.ExitLaws.{at_node}
-use Rattle.lock_table.specs.code.Rows.{TableParts, held}
+use Rattle.lock_table.specs.rule.Tables.{TableParts, held}
 use Rattle.messages.specs.declared.message.Message.{Message}
 use Rattle.messages.specs.declared.message.Message.TheVariants.{Freed}
 use Rattle.messages.specs.declared.refusal.StepError.{StepError}
 use Rattle.messages.specs.declared.outcome.Outcome.{Outcome}
 use Rattle.node_core.specs.declared.change.NodeChange.{NodeChange}
 use Rattle.node_core.specs.declared.event.NodeEvent.{NodeEvent}
-use Rattle.node_core.specs.code.Anchors.{IsAnchored}
+use Rattle.node_core.specs.rule.Anchors.{IsAnchored}
 use Rattle.node_core.specs.rule.Node.{node_rule}
 use Rattle.node_core.proofs.AnchorLaws.{rule-anchored}
 use Rattle.descriptors.specs.declared.process_entry.ProcessEntry.{ProcessEntry}
@@ -34,7 +34,7 @@ use Rattle.node_core.specs.declared.file_row.FileRow.{FileRow}
 use Rattle.node_core.specs.declared.open_call.OpenCall.{OpenCall}
 use Rattle.node_core.specs.declared.open_calls.CallsEdit.{CallsEdit}
 use Rattle.node_core.specs.declared.open_calls.CallsEdit.TheVariants.{Same, Put, Gone, Left}
-use Rattle.descriptors.specs.code.Rows.{processes}
+use Rattle.descriptors.specs.rule.Rows.{processes}
 use Rattle.node_core.specs.rule.Files.{file_state}
 use Rattle.node_core.specs.rule.State.{FileState, NodeState, Effect, host, outcome}
 use Rattle.node_core.specs.rule.Try.{with_freed}

@@ -13,7 +13,8 @@ use Rattle.model.specs.rule.Descriptors.{Processes, is_of_file, has_open}
 use Rattle.model.specs.rule.Table.{Table, around, descriptor, is_running, exited}
 use Rattle.descriptors.specs.declared.error.FdError.{FdError}
 use Rattle.descriptors.specs.declared.error.FdError.TheVariants.{NoProcess, BadFd}
-use Rattle.descriptors.specs.code.Rows.{processes, resolved, fd_reply}
+use Rattle.descriptors.specs.code.Rows.{resolved, fd_reply}
+use Rattle.descriptors.specs.rule.Rows.{processes}
 use Rattle.fcntl_table.proofs.TableLaws.{found_there, closes_there, refused_there}
 use Rattle.node_core.specs.declared.node_edit.NodeTableEdit.TheVariants.{Closes, Exits}
 use Rattle.node_core.specs.rule.State.{NodeState, Effect, without_call_of, host, process}

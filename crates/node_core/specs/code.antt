@@ -1,4 +1,3 @@
-pub mod Anchors
 pub mod FileRows
 pub mod Hints
 pub mod Plans

@@ -9,3 +9,4 @@ pub mod Answers
 pub mod Files
 pub mod Parts
 pub mod Laws
+pub mod Anchors

@@ -2,7 +2,7 @@
 //!
 //! Each function here that can fail errs with `AllocError`, where a request for memory was refused.
 ghost use Rattle.std.specs.Prelude.{◌≡◌, ◌↔◌, false, IfOk, IsTrue};
-ghost use Rattle.token_set.specs.code.Sets.{token_of};
+ghost use Rattle.token_set.specs.rule.Tokens.{token_of};
 ghost use Rattle.messages.specs.rule.Reports.{runs_of};
 ghost use Rattle.node_core.specs.rule.State.{first_file};
 ghost use Rattle.node_core.specs.rule.Answers.{answer_of};

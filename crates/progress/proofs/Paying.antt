@@ -21,7 +21,7 @@ use Rattle.token_server.specs.declared.token_queue.token_request.TokenRequest.{T
 use Rattle.token_server.specs.rule.Rows.{Row, outstanding_of}
 use Rattle.token_server.specs.rule.State.{ServerState, begin, awaits, with_row, requests}
 use Rattle.token_server.specs.rule.Serve.{narrowed, granted_span, conflicting_node, commanded, granted_to, revoked_from, served, with_more, and_then, each_served, ready, serve}
-use Rattle.token_server.specs.code.Obstacles.{are_apart}
+use Rattle.token_server.specs.rule.Obstacles.{are_apart}
 use Rattle.token_server.proofs.AskedLaws.{served-holds, served-awaits}
 use Rattle.token_server.proofs.CareLaws.{All-left, All-right, active-each}
 use Rattle.token_server.proofs.GrantLaws.{conflicts_at, narrowed-largest}

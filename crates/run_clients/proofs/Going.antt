@@ -10,7 +10,7 @@ use Rattle.cluster_core.specs.rule.Histories.{ItemStep, IsLegal}
 use Rattle.placement.proofs.Replays.{Follows}
 use Rattle.run_clients.specs.declared.answer_time.AnswerTime.TheVariants.{At}
 use Rattle.run_clients.specs.declared.file_call.FileCall.{FileCall}
-use Rattle.run_clients.specs.code.Times.{IsTimed}
+use Rattle.run_clients.specs.rule.Seen.{IsTimed}
 use Rattle.run_clients.specs.rule.Seen.{op_of, item_deeds, call_of, AreSeen}
 
 -- the calls seen so far, and those that will be seen from this table on, are all that are seen from the first

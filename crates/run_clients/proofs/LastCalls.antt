@@ -11,7 +11,7 @@ use Rattle.messages.specs.declared.event.Event.{Event}
 use Rattle.messages.specs.declared.event.Event.TheVariants.{AtNode, AtServer, Deliver, Member}
 use Rattle.messages.specs.declared.event.NodeInput.TheVariants.{Call, Interrupt, Retry}
 use Rattle.messages.specs.declared.entry.Entry.{Entry}
-use Rattle.messages.specs.code.Entries.{NamesItsCall}
+use Rattle.messages.specs.rule.Entries.{NamesItsCall}
 use Rattle.cluster_core.specs.rule.Histories.{caller, EntryAt, IsCalledAt}
 use Rattle.run_clients.specs.contracts.made_call.ProcessNamePartialEq.TheImpl as derived
 use Rattle.run_clients.specs.declared.made_call.MadeCall.{MadeCall}

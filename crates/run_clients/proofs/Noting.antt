@@ -11,7 +11,7 @@ use Rattle.messages.specs.declared.event.Event.{Event}
 use Rattle.messages.specs.declared.event.Event.TheVariants.{AtNode, AtServer, Deliver, Member}
 use Rattle.messages.specs.declared.event.NodeInput.TheVariants.{Call, Interrupt, Retry}
 use Rattle.messages.specs.declared.entry.Entry.{Entry}
-use Rattle.messages.specs.code.Entries.{NamesItsCall}
+use Rattle.messages.specs.rule.Entries.{NamesItsCall}
 use Rattle.messages.specs.rule.Messages.{same_call}
 use Rattle.messages.proofs.SameMessages.{call_exact, call_refl}
 use Rattle.cluster_core.specs.declared.item.Item.{Item}
@@ -20,7 +20,8 @@ use Rattle.cluster_core.specs.rule.Histories.{EntryAt, IsCalledAt, IsRepliedAt, 
 use Rattle.run_clients.proofs.LastCalls.{one_entry, after_first, none_last}
 use Rattle.run_clients.proofs.Runs.{within}
 use Rattle.run_clients.specs.declared.call_times.CallTimes.{CallTimes}
-use Rattle.run_clients.specs.code.Times.{IsTimed, Positions, position_of_call, Notes, IsMade, IsAnswered, AreFound, AreTimes, IsKnown, IsKept}
+use Rattle.run_clients.specs.code.Times.{Positions, position_of_call, Notes, IsMade, IsAnswered, AreFound, AreTimes, IsKnown, IsKept}
+use Rattle.run_clients.specs.rule.Seen.{IsTimed}
 
 module _ (IsSo : CallId → ℕ → Type 0) (old : Positions) (before at : ℕ) (next : at ≡ before + 1) (found : AreFound IsSo old before) where
   pub noted : (new : Positions) (id : CallId) → Notes old id at new → IsSo id at → ((x : CallId) → IsSo x at → x ≡ id) → AreFound IsSo new at

@@ -9,7 +9,7 @@ use Rattle.model.specs.declared.reply.Reply.TheVariants.{Done}
 use Rattle.model.specs.rule.Limits.{IsNumber, IsProcess, most_processes}
 use Rattle.model.specs.rule.Table.{Table}
 use Rattle.messages.specs.declared.entry.Entry.{Entry}
-use Rattle.messages.specs.code.Entries.{NamesItsCall}
+use Rattle.messages.specs.rule.Entries.{NamesItsCall}
 use Rattle.cluster_core.specs.rule.Histories.{caller, EntryAt, IsCalledAt, IsRepliedAt}
 use Rattle.run_clients.specs.declared.answer_time.AnswerTime.TheVariants.{Never}
 use Rattle.run_clients.specs.declared.call_times.CallTimes.{CallTimes}

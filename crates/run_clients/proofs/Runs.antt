@@ -16,7 +16,7 @@ use Rattle.cluster_core.specs.rule.Histories.{caller, position_of, ItemStep, Ris
 use Rattle.client_history.specs.declared.client_call.ClientCall.{ClientCall}
 use Rattle.client_history.specs.rule.Explained.{IsExplainedBy, always}
 use Rattle.run_clients.specs.code.Anchored.{AreAnchored}
-use Rattle.run_clients.specs.code.Times.{IsTimed}
+use Rattle.run_clients.specs.rule.Seen.{IsTimed}
 use Rattle.run_clients.specs.declared.answer_time.AnswerTime.TheVariants.{At}
 use Rattle.run_clients.specs.declared.file_call.FileCall.{FileCall}
 use Rattle.run_clients.specs.rule.Deeds.{DeedsLead, exits_to}

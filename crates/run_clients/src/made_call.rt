@@ -1,6 +1,6 @@
 //! The calls that entries make, and the processes that they name.
 ghost use Rattle.std.specs.Prelude.{◌≡◌};
-ghost use Rattle.messages.specs.code.Entries.{NamesItsCall};
+ghost use Rattle.messages.specs.rule.Entries.{NamesItsCall};
 ghost use Rattle.cluster_core.specs.rule.Histories.{caller};
 ghost use Rattle.run_clients.specs.code.LastCalls.{made_by, name_of};
 

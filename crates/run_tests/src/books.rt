@@ -2,6 +2,7 @@
 ghost use Rattle.std.specs.Prelude.{◌≡◌, IfSome};
 
 use book::book::Book;
+use book::mark::Mark;
 use book::new_trail::NewTrail;
 use book::seat::Seat;
 use book::stamp::Stamp;
@@ -45,13 +46,27 @@ pub fn commits<J: Name>(
     position(book.commit(alloc, seat, prepared, None))
 }
 
+/// Prepares the event's step and commits it at once, where the actor has seen the mark, if there is one: the stamp, if the step was taken. (In a
+/// box, since that is dropped in fewer steps.)
+pub fn stamped<J: Name>(
+    book: &mut Book<J>,
+    alloc: Global,
+    seat: &mut Seat<J>,
+    event: Event,
+    seen: Option<&Mark>,
+) -> Option<Box<Stamp>> {
+    let prepared = seat.prepare(alloc, event).ok()?;
+    let stamp = book.commit(alloc, seat, prepared, seen).ok()?;
+    Box::new(alloc, stamp).ok()
+}
+
 /// Puts what was made in the place of what was there. (Of any type, since a seat is dropped in many steps.)
 pub fn put<T: Drop, E: Drop>(place: &mut T, made: Result<T, E>) -> Option<()> {
     *place = made.ok()?;
     Some(())
 }
 
-/// The same of the first of two, and the second.
+/// Puts the first of the two that were made in the place of what was there: the second.
 pub fn put_first<T: Drop, U: Drop, E>(place: &mut T, made: Result<(T, U), E>) -> Result<U, E> {
     let (first, second) = made?;
     *place = first;

@@ -17,6 +17,10 @@ mod of_actors;
 #[cfg(test)]
 mod of_book;
 #[cfg(test)]
+mod of_client_history;
+#[cfg(test)]
+mod of_clients;
+#[cfg(test)]
 mod of_cluster_core;
 #[cfg(test)]
 mod of_descriptors;
@@ -31,11 +35,15 @@ mod of_lock_table;
 #[cfg(test)]
 mod of_lockscript;
 #[cfg(test)]
+mod of_merges;
+#[cfg(test)]
 mod of_messages;
 #[cfg(test)]
 mod of_node_core;
 #[cfg(test)]
 mod of_placement;
+#[cfg(test)]
+mod of_rebuilt_server;
 #[cfg(test)]
 mod of_refused_memory;
 #[cfg(test)]

@@ -1,7 +1,7 @@
 //! Commits, and why they are refused.
 ghost use Rattle.std.specs.Prelude.{◌≡◌, IfSome};
 
-use crate::books::{BookWithSeats, commits, open, position, put};
+use crate::books::{BookWithSeats, commits, open, position, put, stamped};
 use book::book::Book;
 use book::commit_error::CommitError;
 use book::confirms::Confirms;
@@ -15,6 +15,7 @@ use messages::refusal::{Refused, StepError};
 use messages::shape::Shape;
 use model::op::{Op, ProcessCall};
 use model::policy::Policy;
+use model::reply::Reply;
 use std::alloc::Global;
 use std::marker::Brand;
 use std::test::Fail;
@@ -38,7 +39,7 @@ fn spawn_of(node: u8, pid: u16) -> Event {
     Event::AtNode(node, NodeInput::Call { pid, op })
 }
 
-// The first step of a node's process, committed at once. (A stamp in a box is dropped in fewer steps.)
+// The first step of a node's process, committed at once.
 fn begin<J: Name>(
     book: &mut Book<J>,
     alloc: Global,
@@ -46,9 +47,7 @@ fn begin<J: Name>(
     node: u8,
     seen: Option<&Mark>,
 ) -> Option<Box<Stamp>> {
-    let prepared = seat.prepare(alloc, spawn(node)).ok()?;
-    let stamp = book.commit(alloc, seat, prepared, seen).ok()?;
-    Box::new(alloc, stamp).ok()
+    stamped(book, alloc, seat, spawn(node), seen)
 }
 
 // Whether the event's step is taken.
@@ -73,9 +72,25 @@ fn is_confirmed<J: Name>(book: &Book<J>, first: &Stamp, second: &Stamp) -> bool 
         return false;
     }
     match Receipt::of(second, second) {
-        Some(receipt) => receipt.call_at() == 2 && book.confirm(&receipt),
+        Some(receipt) => {
+            receipt.seen() == 1
+                && receipt.call_at() == 2
+                && receipt.reply_at() == 2
+                && book.confirm(&receipt)
+        }
         None => false,
     }
+}
+
+// Whether the entry at the position is the step, which is the first call of the node's incarnation, and is answered at once, done.
+fn is_done(stamp: &Stamp, position: u32, node: u8, incarnation: u16) -> bool {
+    let Some((call, reply)) = stamp.outcome().reply else {
+        return false;
+    };
+    stamp.position() == position
+        && stamp.outcome().call == Some(call)
+        && (call.node, call.incarnation, call.number) == (node, incarnation, 1)
+        && reply == Reply::Done
 }
 
 // Whether a process of each node begins, the second once the first did, and there is a receipt of the second.
@@ -165,7 +180,8 @@ fn takes_one_of_two<J: Name>(
         return None;
     };
     let stale = book.commit(alloc, one, second, None).err();
-    Some(is_confirmed(book, &before, &stamp) && stale == Some(CommitError::Stale))
+    let are_done = is_done(&before, 1, 2, 1) && is_done(&stamp, 2, 1, 1);
+    Some(are_done && is_confirmed(book, &before, &stamp) && stale == Some(CommitError::Stale))
 }
 
 // Whether a step that was prepared before its node was declared failed is refused, and the book and the seat are as they were.
@@ -181,17 +197,6 @@ fn is_fenced_as_it_was<J: Name>(
     Some(declared == Some(3) && refused == Some(CommitError::Fenced) && is_as_it_was)
 }
 
-// Whether the call of the step is the first one of a node's second incarnation, and is answered at position 5.
-fn is_first_again(stamp: &Stamp) -> bool {
-    match Receipt::of(stamp, stamp) {
-        Some(receipt) => {
-            let call = receipt.call();
-            receipt.reply_at() == 5 && call.incarnation == 2 && call.number == 1
-        }
-        None => false,
-    }
-}
-
 // Whether the node that begins again has a new seat, whose first step is taken, and which commits no step of another node.
 fn begins_on_a_new_seat<J: Name>(
     book: &mut Book<J>,
@@ -200,13 +205,14 @@ fn begins_on_a_new_seat<J: Name>(
     two: &mut Seat<J>,
 ) -> Option<bool> {
     put(one, book.restart(alloc, 1))?;
+    let restarted = book.len();
     let begun = begin(book, alloc, one, 1, None)?;
     let strange = two.prepare(alloc, spawn_of(2, 2)).ok()?;
     if one.actor() == two.actor() {
         return None;
     }
     let refused = book.commit(alloc, one, strange, None).err();
-    Some(is_first_again(&begun) && refused == Some(CommitError::Stale))
+    Some(restarted == 4 && is_done(&begun, 5, 1, 2) && refused == Some(CommitError::Stale))
 }
 
 // Whether a book refuses a step of a seat of another book that has taken one of the same node.
@@ -237,7 +243,7 @@ fn takes_and_refuses<J: Name>(
     Some(is_right && refuses_the_other_book(book, alloc, other)?)
 }
 
-// The same in two books.
+// Whether that is so in two books of two nodes and one file.
 fn takes_prepared_steps<J: Name>(alloc: Global) -> Result<bool, Fail> {
     let mut opened = begins::<J>(alloc, None)?;
     let mut other = begins::<J>(alloc, None)?;

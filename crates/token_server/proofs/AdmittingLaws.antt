@@ -16,7 +16,7 @@ use Rattle.token_server.specs.rule.Requests.{meets}
 use Rattle.token_server.specs.rule.Serve.{meets_some, admitted}
 use Rattle.token_server.specs.code.Admitting.{has_call_of, all_but, IsAdmitted}
 use Rattle.token_server.proofs.AdmitLaws.{Lists, admitted-more}
-use Rattle.token_server.specs.code.Obstacles.{are_apart}
+use Rattle.token_server.specs.rule.Obstacles.{are_apart}
 use Rattle.token_server.proofs.StayLaws.{Stay, stay-admits, admitted-stay}
 
 -- the number of the call's requests among these

@@ -16,7 +16,8 @@ use Rattle.token_server.specs.rule.Rows.{Row, row_conflicts}
 use Rattle.token_server.specs.rule.State.{ServerState}
 use Rattle.token_server.specs.rule.Serve.{conflicting_node}
 use Rattle.token_server.specs.code.Changes.{may_bar, rows_after}
-use Rattle.token_server.specs.code.Obstacles.{obstacle, are_apart, frees, may_turn}
+use Rattle.token_server.specs.code.Obstacles.{frees, may_turn}
+use Rattle.token_server.specs.rule.Obstacles.{obstacle, are_apart}
 use Rattle.token_server.specs.rule.RowParts.{rows_of}
 use Rattle.token_server.specs.rule.Parts.{ServerParts, server_state}
 use Rattle.token_server.specs.code.RowEdits.{rows_overlaid}

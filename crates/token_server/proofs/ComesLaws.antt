@@ -18,7 +18,8 @@ use Rattle.token_server.specs.declared.gone.Gone.{Gone}
 use Rattle.token_server.specs.declared.sketch.Moved.{Moved}
 use Rattle.token_server.specs.declared.sketch.Moved.TheVariants.{Nothing, New, Again, Waiting, PutOff}
 use Rattle.token_server.specs.rule.Serve.{meets_some}
-use Rattle.token_server.specs.code.Admitting.{all_stay, IsAdmitted}
+use Rattle.token_server.specs.code.Admitting.{IsAdmitted}
+use Rattle.token_server.specs.rule.Obstacles.{all_stay}
 use Rattle.token_server.specs.code.Ready.{AreDistinct}
 use Rattle.token_server.specs.code.Sketches.{without, still_active, queue_moved}
 use Rattle.token_server.specs.code.Edits.{is_up_to_any, is_of_any, keeps}

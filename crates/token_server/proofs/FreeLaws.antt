@@ -22,7 +22,8 @@ use Rattle.token_server.specs.rule.State.{ServerState}
 use Rattle.token_server.specs.rule.Requests.{meets}
 use Rattle.token_server.specs.rule.Serve.{conflicting_node}
 use Rattle.token_server.specs.code.Changes.{with_change, row_or_empty, row_after, may_bar}
-use Rattle.token_server.specs.code.Obstacles.{obstacle, is_dropped, frees, may_turn}
+use Rattle.token_server.specs.code.Obstacles.{is_dropped, frees, may_turn}
+use Rattle.token_server.specs.rule.Obstacles.{obstacle}
 use Rattle.token_server.proofs.GrantLaws.{conflicts_at}
 use Rattle.token_server.proofs.ObstacleLaws.{meets-from, obstacle-kept}
 

@@ -11,7 +11,7 @@ use Rattle.token_server.specs.rule.Actives.{ActiveParts}
 use Rattle.token_server.specs.declared.known_nodes.known_node.KnownNode.{KnownNode}
 use Rattle.token_server.specs.rule.Rows.{is_awaited}
 use Rattle.token_server.specs.rule.State.{ServerState}
-use Rattle.token_server.specs.code.Obstacles.{obstacle, is_idle}
+use Rattle.token_server.specs.rule.Obstacles.{obstacle, is_idle}
 use Rattle.token_server.specs.rule.RowParts.{rows_of}
 use Rattle.token_server.specs.rule.Parts.{server_state}
 use Rattle.token_server.specs.code.Ready.{IsServer}

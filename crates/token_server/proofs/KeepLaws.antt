@@ -17,7 +17,7 @@ use Rattle.token_server.specs.rule.Rows.{Row, row_conflicts}
 use Rattle.token_server.specs.rule.State.{ServerState, with_row, begin}
 use Rattle.token_server.specs.rule.Requests.{meets}
 use Rattle.token_server.specs.rule.Serve.{meets_some, conflicting_node, commanded, granted_to, revoked_from, served}
-use Rattle.token_server.specs.code.Obstacles.{are_apart}
+use Rattle.token_server.specs.rule.Obstacles.{are_apart}
 use Rattle.token_server.proofs.GrantLaws.{conflicts_at}
 use Rattle.token_server.proofs.AdmittingLaws.{both-meet, meets-flip, neither}
 use Rattle.token_server.proofs.CareLaws.{All-left, All-right}

@@ -19,7 +19,7 @@ use Rattle.messages.specs.declared.refusal.StepError.TheVariants.{Spent}
 use Rattle.messages.specs.rule.Messages.{greatest_number}
 use Rattle.token_server.specs.rule.Requests.{meets}
 use Rattle.token_server.specs.rule.Serve.{narrowed, is_taken, granted_span, conflicting_node, commanded, granted_to, revoked_from, served}
-use Rattle.token_server.specs.code.Obstacles.{obstacle, is_idle}
+use Rattle.token_server.specs.rule.Obstacles.{obstacle, is_idle}
 use Rattle.token_server.proofs.GrantLaws.{conflicts_at, narrowed-largest}
 
 -- the first number that passes is the first of fewer that pass, if it is one of them

@@ -28,8 +28,9 @@ use Rattle.token_server.specs.rule.State.{ServerState, awaits}
 use Rattle.token_server.specs.rule.Serve.{meets_some, admitted, served, with_more, and_then, each_served, ready, serve}
 use Rattle.token_server.specs.rule.Resends.{sending_first}
 use Rattle.token_server.specs.code.Told.{with_told}
-use Rattle.token_server.specs.code.Obstacles.{obstacle, are_apart, is_idle}
-use Rattle.token_server.specs.code.Admitting.{all_but, all_stay}
+use Rattle.token_server.specs.rule.Obstacles.{obstacle, are_apart, is_idle}
+use Rattle.token_server.specs.code.Admitting.{all_but}
+use Rattle.token_server.specs.rule.Obstacles.{all_stay}
 use Rattle.token_server.specs.rule.RowParts.{rows_of, deaths_of}
 use Rattle.token_server.specs.rule.Parts.{ServerParts, server_state}
 use Rattle.token_server.specs.code.Ready.{AreDistinct, IsOrderly, IsReady, IsServer}

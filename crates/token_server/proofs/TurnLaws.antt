@@ -30,7 +30,7 @@ use Rattle.token_server.specs.rule.State.{ServerState, with_row, begin}
 use Rattle.token_server.specs.code.Sent.{next_number, told_commands}
 use Rattle.token_server.specs.code.Sketches.{commands_of, without, still_active}
 use Rattle.token_server.specs.rule.Serve.{narrowed, granted_span, conflicting_node, commanded, granted_to, revoked_from, served, each_served}
-use Rattle.token_server.specs.code.Obstacles.{obstacle, are_apart, is_idle}
+use Rattle.token_server.specs.rule.Obstacles.{obstacle, are_apart, is_idle}
 use Rattle.token_server.specs.code.Told.{told_to, row_told, with_told, commands_told, cut}
 use Rattle.token_server.specs.code.Edits.{is_up_to_any, is_of_any, keeps, held_still, held_without, held_after}
 use Rattle.token_server.specs.code.Turns.{kept, kept_of, IsTurn, AreServed}

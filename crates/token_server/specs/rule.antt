@@ -7,3 +7,4 @@ pub mod Parts
 pub mod Serve
 pub mod Resends
 pub mod Server
+pub mod Obstacles

@@ -13,7 +13,7 @@ use Rattle.model.specs.declared.lock_info.LockInfo.{LockInfo}
 use Rattle.model.specs.rule.Owners.{owner_at, most_owners}
 use Rattle.model.specs.rule.Locks.{FileLocks, excludes, bars, IsRegion, IsOfNode, IsClear, IsInWay, IsLowestInWay, lowest_in_way}
 use Rattle.model.proofs.WayLaws.{clear_has_none, barred_region, lowest_in_way_is_lowest, is_lowest_in_way}
-use Rattle.lock_table.specs.code.Blockers.{HasInWay}
+use Rattle.lock_table.specs.rule.Listing.{HasInWay}
 use Rattle.lock_table.proofs.LargestLaws.{IsLargest-iff}
 use Rattle.token_set.specs.rule.Tokens.{Token, serves}
 use Rattle.token_set.specs.rule.Releases.{lowered_level, lowered, is_in_way, given_up_span, answer_of, gave_up, NoneInWay, IsGivenUp, IsRevocable, GaveUpIsGivenUp, GaveUpIsOne, ReleasedIsClear, IsAtMost, LoweringLowers, LoweringKeepsLocks}

@@ -13,7 +13,7 @@ use Rattle.model.specs.declared.mode.Mode.{Mode}
 use Rattle.model.specs.declared.mode.Mode.TheVariants.{Read}
 use Rattle.model.specs.declared.level.Level.{Level}
 use Rattle.token_set.specs.rule.Tokens.{Token, conflicts, level_conflicts}
-use Rattle.token_set.specs.code.Sets.{token_of}
+use Rattle.token_set.specs.rule.Tokens.{token_of}
 use Rattle.token_set.specs.code.Views.{InWay}
 use Rattle.token_set.proofs.SearchLaws.{some_passes-first}
 use Rattle.token_set.proofs.TokenLaws.{conflicts-from, conflicts-none, none-conflicts}

@@ -1,7 +1,7 @@
 //! The desired range of a token request.
 ghost use Rattle.std.specs.Prelude.{◌≡◌};
 ghost use Rattle.token_set.specs.rule.Tokens.{desired};
-ghost use Rattle.token_set.specs.code.Sets.{token_of};
+ghost use Rattle.token_set.specs.rule.Tokens.{token_of};
 
 use crate::set::TokenSet;
 use intervals::span::{GREATEST, Span};

@@ -5,7 +5,7 @@ ghost use Rattle.intervals.specs.declared.tree_map.TreeMap.{TreeMap};
 ghost use Rattle.model.specs.declared.level.Level.{Level};
 ghost use Rattle.model.specs.declared.mode.Mode.TheVariants.{Read};
 ghost use Rattle.token_set.specs.rule.Tokens.{conflicts};
-ghost use Rattle.token_set.specs.code.Sets.{token_of};
+ghost use Rattle.token_set.specs.rule.Tokens.{token_of};
 ghost use Rattle.token_set.specs.code.Edits.{edited};
 
 use crate::set::{TokenSet, is_exclusive};

@@ -1,7 +1,7 @@
 //! What a holder gives up when a token server revokes bytes of its token.
 ghost use Rattle.std.specs.Prelude.{◌≤◌};
 ghost use Rattle.model.specs.rule.Locks.{IsRegion};
-ghost use Rattle.lock_table.specs.code.Rows.{held};
+ghost use Rattle.lock_table.specs.rule.Tables.{held};
 ghost use Rattle.token_set.specs.rule.Releases.{IsGivenUp};
 
 use intervals::span::Span;

@@ -6,9 +6,10 @@ ghost use Rattle.std.specs.Prelude.{◌≡◌, ◌≤◌, ◌<◌, true, false, 
 ghost use Rattle.intervals.specs.rule.Bytes.{NoneIn, put};
 ghost use Rattle.intervals.specs.code.Edits.{written};
 ghost use Rattle.model.specs.rule.Locks.{IsRegion};
-ghost use Rattle.lock_table.specs.code.Rows.{held};
+ghost use Rattle.lock_table.specs.rule.Tables.{held};
 ghost use Rattle.token_set.specs.rule.Tokens.{Token, no_token, serves, covers, raised, level_conflicts};
-ghost use Rattle.token_set.specs.code.Sets.{token_of, bar_of, HasLevels, IsFirstExclusive, at_exclusive};
+ghost use Rattle.token_set.specs.code.Sets.{bar_of, HasLevels, IsFirstExclusive, at_exclusive};
+ghost use Rattle.token_set.specs.rule.Tokens.{token_of};
 ghost use Rattle.token_set.specs.rule.Releases.{lowered, IsGivenUp, after_giving_up};
 ghost use Rattle.token_set.specs.code.Edits.{edited};
 ghost use Rattle.token_set.specs.code.Runs.{NothingFrom, IsNextRun};
@@ -50,7 +51,8 @@ impl Model for TokenSet {
     ghost view = { λ t. t.levels };
 
     ghost use Rattle.std.specs.Prelude.{◌≡◌, false};
-    ghost use Rattle.token_set.specs.code.Sets.{ExcludesNone, token_of};
+    ghost use Rattle.token_set.specs.code.Sets.{ExcludesNone};
+    ghost use Rattle.token_set.specs.rule.Tokens.{token_of};
 
     ghost invariant = { λ t. t.may_exclude ≡ false → ExcludesNone (token_of t.levels) };
 }

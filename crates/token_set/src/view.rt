@@ -3,7 +3,7 @@ ghost use Rattle.std.specs.Prelude.{◌≡◌, ◌+◌, ◌<◌, ◌≤◌, ℕ,
 ghost use Rattle.intervals.specs.rule.Bytes.{greatest, IsLargest, NoneIn, put, largest_around};
 ghost use Rattle.intervals.specs.code.Runs.{IsLowestFree, IsHighestFree};
 ghost use Rattle.token_set.specs.rule.Tokens.{conflicts, level_conflicts};
-ghost use Rattle.token_set.specs.code.Sets.{token_of};
+ghost use Rattle.token_set.specs.rule.Tokens.{token_of};
 ghost use Rattle.token_set.specs.code.Views.{viewed, InWay};
 
 use crate::set::TokenSet;

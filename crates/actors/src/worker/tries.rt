@@ -1,6 +1,7 @@
 //! The tries of a worker: open calls of a node are made again, and a token server sends again.
 ghost use Rattle.std.specs.Prelude.{◌<◌};
-ghost use Rattle.book.specs.rule.Commits.{Names, IsStepFrom};
+ghost use Rattle.book.specs.rule.Commits.{Names};
+ghost use Rattle.book.specs.code.Copies.{IsStepFrom};
 
 use super::{Cause, Worker, commit_to};
 use crate::call_error::CallError;

@@ -11,13 +11,7 @@ use Rattle.book.specs.declared.state_edit.StateEdit.{StateEdit}
 use Rattle.book.specs.declared.state_edit.StateEdit.TheVariants.{Node as OnNode, Server as OnServer}
 use Rattle.book.specs.declared.state.State.{State}
 use Rattle.book.specs.declared.state.State.TheVariants.{OfNode, OfServer}
-use Rattle.book.specs.rule.States.{ActorState}
-use Rattle.book.specs.rule.States.ActorState.{NodeIs, ServerIs}
-
--- the state of which this is a copy
-abbrev pub state_of : State → ActorState
-state_of (OfNode n s) = NodeIs n (node_state s.value)
-state_of (OfServer f s) = ServerIs f (server_state s.value)
+use Rattle.book.specs.rule.Fields.{SeatFields, IsLevel, PreparedFields}
 
 -- the change was planned from the copy
 abbrev pub Fits : State → StateEdit → Type 0
@@ -36,3 +30,7 @@ abbrev pub Plans : State → Event → StateEdit → Outcome → Type 0
 Plans (OfNode n s) event (OnNode e) o = node_step n (node_state s.value) event ≡ Ok (reached s.value e, o)
 Plans (OfServer f s) event (OnServer e) o = server_step f (server_state s.value) event ≡ Ok (planned s.value e, o)
 Plans _ event _ o = ⊥
+
+-- the step was planned from the seat's copy, which was level
+abbrev pub IsStepFrom : SeatFields → PreparedFields → Type 0
+IsStepFrom s p = IsLevel s × Fits s.standing.copy p.edit × Plans s.standing.copy p.event p.edit p.outcome

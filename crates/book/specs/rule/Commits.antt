@@ -8,17 +8,12 @@ use Rattle.cluster_core.specs.rule.Actors.{Records}
 use Rattle.book.specs.declared.commit_error.CommitError.{CommitError}
 use Rattle.book.specs.declared.commit_error.CommitError.TheVariants.{JournalFull, Stale, Stranger, Fenced, NoMemory}
 use Rattle.book.specs.rule.States.{actor_of, incarnation_of, StepsTo, HasState, is_declared, made_by}
-use Rattle.book.specs.rule.Fields.{SeatFields, seat_state, IsLevel, PreparedFields, StampFields}
-use Rattle.book.specs.code.Copies.{Fits, Plans}
-use Rattle.book.specs.code.Receipts.{IsStampOf}
+use Rattle.book.specs.rule.Fields.{SeatFields, seat_state, PreparedFields, StampFields}
+use Rattle.book.specs.rule.Receipts.{IsStampOf}
 
 -- the step names the seat's actor, incarnation and number of commits
 abbrev pub Names : PreparedFields → SeatFields → Type 0
 Names p s = (p.actor ≡ actor_of (seat_state s)) × (p.incarnation ≡ incarnation_of (seat_state s)) × (p.commits ≡ s.commits)
-
--- the step was planned from the seat's copy, which was level
-abbrev pub IsStepFrom : SeatFields → PreparedFields → Type 0
-IsStepFrom s p = IsLevel s × Fits s.standing.copy p.edit × Plans s.standing.copy p.event p.edit p.outcome
 
 -- the seat is of the book: its actor is alive, and in the seat's state
 abbrev pub IsSeatOf : RunFields → SeatFields → Type 0

@@ -9,7 +9,7 @@ use Rattle.messages.specs.declared.outcome.Outcome.{Outcome}
 use Rattle.book.specs.declared.state_edit.StateEdit.{StateEdit}
 use Rattle.book.specs.declared.state.State.{State}
 use Rattle.book.specs.rule.States.{ActorState, once_taken}
-use Rattle.book.specs.code.Copies.{state_of}
+use Rattle.book.specs.rule.States.{state_of}
 
 -- where a seat stands: a copy of its actor's state, and the event that was taken since and that the copy has still to take, if there is one
 pub record StandingFields : Type 0 where

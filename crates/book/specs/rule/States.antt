@@ -10,6 +10,10 @@ use Rattle.node_core.specs.rule.State.{NodeState}
 use Rattle.token_server.specs.rule.State.{ServerState}
 use Rattle.cluster_core.specs.rule.World.{WorldState, has_node, has_file, was_declared, has_failed}
 use Rattle.cluster_core.specs.rule.Actors.{HasNode, HasServer, node_step, server_step, made_by_node, made_by_server}
+use Rattle.node_core.specs.rule.Parts.{node_state}
+use Rattle.token_server.specs.rule.Parts.{server_state}
+use Rattle.book.specs.declared.state.State.{State}
+use Rattle.book.specs.declared.state.State.TheVariants.{OfNode, OfServer}
 
 -- the state of the node with that number, or of the token server of that file
 pub data ActorState : Type 0 where
@@ -65,3 +69,8 @@ is_declared w (ServerIs f s) = has_file w f && has_failed w f s.epoch
 abbrev pub made_by : WorldState → Event → ActorState → Outcome → WorldState × Entry
 made_by w event (NodeIs n s) o = made_by_node w event n s o
 made_by w event (ServerIs f s) o = made_by_server w event f s o
+
+-- the state of which this is a copy
+abbrev pub state_of : State → ActorState
+state_of (OfNode n s) = NodeIs n (node_state s.value)
+state_of (OfServer f s) = ServerIs f (server_state s.value)

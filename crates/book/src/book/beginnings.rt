@@ -2,8 +2,8 @@
 ghost use Rattle.std.specs.Prelude.{◌≡◌, ◌+◌, ◌-◌, ◌<◌, Ok, length, IfOk, OnOk};
 ghost use Rattle.cluster_core.specs.rule.World.{first_world};
 ghost use Rattle.book.specs.rule.States.{actor_of, HasState};
-ghost use Rattle.book.specs.code.Copies.{state_of};
-ghost use Rattle.book.specs.code.Seats.{AreFirst};
+ghost use Rattle.book.specs.rule.States.{state_of};
+ghost use Rattle.book.specs.rule.Seats.{AreFirst};
 ghost use Rattle.model.specs.rule.Limits.{IsNumber};
 ghost use Rattle.messages.specs.declared.actor.Actor.TheVariants.{Node as ANode, Server as AServer};
 

@@ -1,6 +1,6 @@
 -- The calls that are over when a call ends.
 use Rattle.std.specs.Prelude.{◌≡◌, ℕ, ◌⊎◌, ◌↔◌, List, slice_get, Some, None}
-use Rattle.lock_table.specs.code.Rows.{held}
+use Rattle.lock_table.specs.rule.Tables.{held}
 use Rattle.client_history.specs.declared.open_client_call.OpenClientCall.{OpenClientCall}
 use Rattle.client_history.specs.declared.search_front.SearchFront.{SearchFront}
 use Rattle.client_history.specs.rule.Explained.{Stands}

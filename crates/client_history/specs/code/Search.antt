@@ -1,7 +1,7 @@
 -- What the search knows when some calls have begun and some are over.
 use Rattle.std.specs.Prelude.{◌≡◌, ℕ, ◌≤◌, ◌⊎◌, true, List, ◌++◌, slice_get, Some, None}
 use Rattle.model.specs.rule.Locks.{Locks, no_locks}
-use Rattle.lock_table.specs.code.Rows.{held}
+use Rattle.lock_table.specs.rule.Tables.{held}
 use Rattle.client_history.specs.declared.act.Act.TheVariants.{Drops}
 use Rattle.client_history.specs.declared.client_call.ClientCall.{ClientCall}
 use Rattle.client_history.specs.declared.open_client_call.OpenClientCall.{OpenClientCall}

@@ -7,7 +7,7 @@ use Rattle.intervals.specs.rule.Bytes.{nothing}
 use Rattle.model.specs.declared.owner.Owner.{Owner}
 use Rattle.model.specs.declared.lock_info.LockInfo.{LockInfo}
 use Rattle.model.specs.rule.Locks.{FileLocks, IsRegion, IsOfNode}
-use Rattle.lock_table.specs.code.Listing.{IsListing, ListsRegions}
+use Rattle.lock_table.specs.rule.Listing.{IsListing, ListsRegions}
 use Rattle.lock_table.proofs.BlockerLemmas.{IsJoin}
 use Rattle.lock_table.proofs.ListingLemmas.{lists_none, lists_join}
 use Rattle.lock_table.proofs.ListingParts.{lists_listing}

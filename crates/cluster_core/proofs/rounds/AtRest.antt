@@ -13,8 +13,8 @@ use Rattle.token_server.specs.declared.token_queue.token_request.TokenRequest.{T
 use Rattle.token_server.specs.rule.Rows.{Row, row_conflicts, outstanding_of, is_hello, is_awaited}
 use Rattle.token_server.specs.rule.State.{ServerState, awaits}
 use Rattle.token_server.specs.rule.Serve.{conflicting_node}
-use Rattle.token_server.specs.code.Obstacles.{obstacle, is_idle}
-use Rattle.token_server.specs.code.Admitting.{all_stay}
+use Rattle.token_server.specs.rule.Obstacles.{obstacle, is_idle}
+use Rattle.token_server.specs.rule.Obstacles.{all_stay}
 use Rattle.cluster_core.specs.rule.Serving.{IsBusy, HasRow, IsAtRest, RestsWithoutRequests}
 use Rattle.token_server.proofs.GrantLaws.{conflicts_at}
 

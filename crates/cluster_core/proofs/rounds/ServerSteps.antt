@@ -23,7 +23,7 @@ use Rattle.token_server.specs.rule.State.{ServerState, forgotten, requeued, firs
 use Rattle.token_server.specs.rule.Serve.{serve}
 use Rattle.token_server.specs.rule.Resends.{outstanding, sending_first}
 use Rattle.token_server.specs.rule.Server.{Change, with_a_row, request_of, enqueued_with, enqueued, asked, acknowledged, ended, postponed, taken, released, in_conflict, heard, row_of_host, freed, delivered, is_server, then_serve, server_rule}
-use Rattle.token_server.specs.code.Obstacles.{are_apart}
+use Rattle.token_server.specs.rule.Obstacles.{are_apart}
 use Rattle.cluster_core.specs.rule.Serving.{IsWanted, BringsWanted, IsBusy, IsServing, EachServerIsServing}
 use Rattle.token_server.proofs.AdmittingLaws.{apart-fewer}
 use Rattle.token_server.proofs.CareLaws.{requeued-each, ended-each, postponed-each, forgotten-each, asked-each}

@@ -4,7 +4,7 @@ use Rattle.std.proofs.Common.{◌≡◌, ℕ, ◌<◌, ◌≤◌, Bool, true, if
 use Rattle.std.specs.Prelude.{OnErr, is_err}
 use Rattle.std.specs.declared.alloc.AllocError.{AllocError}
 use Rattle.std.proofs.lemmas.List.{length-set, set-set, set-get_or}
-use Rattle.messages.specs.code.Entries.{NamesItsIncarnation}
+use Rattle.messages.specs.rule.Entries.{NamesItsIncarnation}
 use Rattle.messages.specs.declared.event.Event.{Event}
 use Rattle.messages.specs.declared.event.Event.TheVariants.{Member}
 use Rattle.messages.specs.declared.event.MemberEvent.{MemberEvent}

@@ -10,7 +10,7 @@ use Rattle.std.proofs.lemmas.List.{get_or_default, length-set}
 use Rattle.model.specs.declared.call.CallId.{CallId}
 use Rattle.std.proofs.lemmas.Bool.{eqb-true}
 use Rattle.messages.specs.rule.Messages.{addressee, is_within}
-use Rattle.messages.specs.code.Entries.{NamesItsCall, NamesItsIncarnation}
+use Rattle.messages.specs.rule.Entries.{NamesItsCall, NamesItsIncarnation}
 use Rattle.messages.specs.declared.message.Message.{Message}
 use Rattle.messages.specs.declared.event.Event.{Event}
 use Rattle.messages.specs.declared.event.Event.TheVariants.{AtNode, AtServer, Deliver, Member}

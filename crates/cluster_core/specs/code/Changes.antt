@@ -1,7 +1,7 @@
 -- The change that an event makes in a world, as it is planned from the world's parts.
 use Rattle.std.specs.Prelude.{◌≡◌, ℕ, ◌-◌, ◌<◌, ◌≤◌, true, false, List, Some, Result, Ok, slice_index_or}
 use Rattle.messages.specs.rule.Messages.{is_within}
-use Rattle.messages.specs.code.Entries.{NamesItsIncarnation}
+use Rattle.messages.specs.rule.Entries.{NamesItsIncarnation}
 use Rattle.messages.specs.declared.refusal.Refused.{Refused}
 use Rattle.messages.specs.declared.event.Event.{Event}
 use Rattle.messages.specs.declared.message.Message.{Message}

@@ -17,8 +17,8 @@ use Rattle.token_server.specs.declared.event.ServerEvent.{ServerEvent}
 use Rattle.token_server.specs.declared.event.ServerEvent.TheVariants.{Input, Deliver}
 use Rattle.token_server.specs.rule.State.{ServerState, awaits, requests, first_server, rebuilt}
 use Rattle.token_server.specs.rule.Server.{row_of_host, server_rule}
-use Rattle.token_server.specs.code.Obstacles.{obstacle, are_apart, is_idle}
-use Rattle.token_server.specs.code.Admitting.{all_stay}
+use Rattle.token_server.specs.rule.Obstacles.{obstacle, are_apart, is_idle}
+use Rattle.token_server.specs.rule.Obstacles.{all_stay}
 
 -- the request needs some bytes, which are among the desired ones
 pub record IsWanted (r : TokenRequest) : Type 0 where

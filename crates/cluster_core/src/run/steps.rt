@@ -1,6 +1,6 @@
 //! The steps of a run that were planned elsewhere, from a copy of the actor's state.
 ghost use Rattle.std.specs.Prelude.{◌≡◌, ◌<◌, true, Ok, OnOk, OnErr};
-ghost use Rattle.messages.specs.code.Entries.{NamesItsIncarnation};
+ghost use Rattle.messages.specs.rule.Entries.{NamesItsIncarnation};
 ghost use Rattle.node_core.specs.rule.Parts.{node_state};
 ghost use Rattle.node_core.specs.code.Plans.{planned as reached, Fits};
 ghost use Rattle.token_server.specs.rule.Parts.{server_state};

@@ -2,7 +2,7 @@
 //! request for memory was refused.
 ghost use Rattle.std.specs.Prelude.{◌≡◌, ◌++◌, true, IfOk, OnOk, map};
 ghost use Rattle.messages.specs.rule.Messages.{is_within};
-ghost use Rattle.lock_table.specs.code.Listing.{IsListing};
+ghost use Rattle.lock_table.specs.rule.Listing.{IsListing};
 ghost use Rattle.node_core.specs.rule.Parts.{node_state};
 ghost use Rattle.cluster_core.specs.rule.Parts.{world_state};
 ghost use Rattle.cluster_core.specs.rule.Union.{union};

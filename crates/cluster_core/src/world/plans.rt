@@ -3,7 +3,7 @@ ghost use Rattle.std.specs.Prelude.{◌≡◌, ◌≢◌, ◌<◌, true, false, 
 ghost use Rattle.messages.specs.declared.refusal.Refused.TheVariants.{NoMemory};
 ghost use Rattle.messages.specs.declared.refusal.StepError.TheVariants.{NoMemory as OutOfMemory};
 ghost use Rattle.messages.specs.rule.Messages.{addressee, is_within};
-ghost use Rattle.messages.specs.code.Entries.{NamesItsIncarnation};
+ghost use Rattle.messages.specs.rule.Entries.{NamesItsIncarnation};
 ghost use Rattle.node_core.specs.rule.Node.{node_rule};
 ghost use Rattle.node_core.specs.rule.Parts.{NodeParts, node_state};
 ghost use Rattle.node_core.specs.code.Plans.{Fits, planned as reached};

@@ -5,7 +5,7 @@ use Rattle.model.specs.rule.Descriptors.{Processes, with_process, with_descripto
 use Rattle.descriptors.specs.declared.process_entry.ProcessEntry.{ProcessEntry}
 use Rattle.descriptors.specs.declared.edit.ProcessEdit.{ProcessEdit}
 use Rattle.descriptors.specs.declared.edit.ProcessEdit.TheVariants.{Begins, Forks, Opens}
-use Rattle.descriptors.specs.code.Rows.{processes}
+use Rattle.descriptors.specs.rule.Rows.{processes}
 
 -- the processes after the edit is made
 abbrev pub edited : Processes → ProcessEdit → Processes

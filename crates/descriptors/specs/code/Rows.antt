@@ -1,5 +1,5 @@
 -- The rows of processes, and the processes that they stand for.
-use Rattle.std.specs.Prelude.{◌≡◌, ℕ, Bool, true, false, not, if◌then◌else◌, List, [], Option, Some, None, Result, Ok, Err, IsOk, slice_index_or}
+use Rattle.std.specs.Prelude.{◌≡◌, ℕ, Bool, true, false, not, if◌then◌else◌, List, Option, Some, None, Result, Ok, Err, IsOk}
 use Rattle.model.specs.declared.opened.Opened.{Opened}
 use Rattle.model.specs.declared.reply.Reply.{Reply}
 use Rattle.model.specs.declared.reply.Reply.TheVariants as reply
@@ -10,27 +10,12 @@ use Rattle.descriptors.specs.declared.error.ProcessError.{ProcessError}
 use Rattle.descriptors.specs.declared.error.ProcessError.TheVariants as error
 use Rattle.descriptors.specs.declared.error.FdError.{FdError}
 use Rattle.descriptors.specs.declared.error.FdError.TheVariants.{NoProcess, BadFd}
-
--- what descriptor fd refers to, in the list of a process's descriptors
-abbrev pub slot : List (Option Opened) → ℕ → Option Opened
-slot fds fd = slice_index_or fds fd None
+use Rattle.descriptors.specs.rule.Rows.{slot, idle, row, processes}
 
 -- both processes run, or neither does, and they have the same descriptors
 pub record IsSameRow (a b : ProcessEntry) : Type 0 where
   pub runs : a.runs ≡ b.runs
   pub opened : slot a.opened ≡ slot b.opened
-
--- the row of a process that doesn't run
-abbrev pub idle : ProcessEntry
-idle = record { runs = false; opened = [] }
-
--- the row of process pid
-abbrev pub row : List ProcessEntry → ℕ → ProcessEntry
-row rows pid = slice_index_or rows pid idle
-
--- the processes that the rows stand for
-unfoldable pub processes : List ProcessEntry → Processes
-processes rows = record { runs = λ pid. (row rows pid).runs; opened = λ pid fd. slot (row rows pid).opened fd }
 
 -- each descriptor refers to a description with a number in range
 abbrev pub AreNumbered : List (Option Opened) → Type 0

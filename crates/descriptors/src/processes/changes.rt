@@ -2,7 +2,8 @@
 ghost use Rattle.std.specs.Prelude.{◌≡◌, ◌<◌, true, false, None, Some, Ok, length, not};
 ghost use Rattle.model.specs.rule.Limits.{IsNumber, most_processes, most_descriptors, most_descriptions};
 ghost use Rattle.model.specs.rule.Descriptors.{with_process, with_descriptor, is_open};
-ghost use Rattle.descriptors.specs.code.Rows.{processes, resolved};
+ghost use Rattle.descriptors.specs.code.Rows.{resolved};
+ghost use Rattle.descriptors.specs.rule.Rows.{processes};
 ghost use Rattle.descriptors.specs.code.Edits.{edited, Fits, HasPlace, IsKnown};
 
 use super::Processes;

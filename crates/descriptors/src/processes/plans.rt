@@ -3,7 +3,8 @@ ghost use Rattle.std.specs.Prelude.{◌≡◌, ◌≢◌, ◌<◌, false, None, 
 ghost use Rattle.model.specs.declared.reply.Reply.TheVariants.{Done, Fd};
 ghost use Rattle.model.specs.rule.Limits.{IsNumber, most_processes, most_descriptors};
 ghost use Rattle.model.specs.rule.Descriptors.{lowest_fd, lowest_description, after_spawn, after_fork, after_open, after_dup, after};
-ghost use Rattle.descriptors.specs.code.Rows.{processes, Refuses};
+ghost use Rattle.descriptors.specs.code.Rows.{Refuses};
+ghost use Rattle.descriptors.specs.rule.Rows.{processes};
 ghost use Rattle.descriptors.specs.code.Edits.{edited, Fits, HasPlace};
 ghost use Rattle.descriptors.specs.code.Calls.{begins, CanBegin};
 

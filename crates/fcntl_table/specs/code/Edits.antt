@@ -7,7 +7,8 @@ use Rattle.descriptors.specs.code.Edits.{edited as edited_processes}
 use Rattle.fcntl_table.specs.declared.edit.TableEdit.{TableEdit}
 use Rattle.fcntl_table.specs.declared.edit.TableEdit.TheVariants.{Nothing, OfProcess, OfLocks, Closes, Exits}
 use Rattle.fcntl_table.specs.declared.table.FcntlTable.{FcntlTable}
-use Rattle.fcntl_table.specs.rule.Hosts.{FitsOn, with_host}
+use Rattle.fcntl_table.specs.rule.Hosts.{with_host}
+use Rattle.fcntl_table.specs.code.Hosts.{FitsOn}
 use Rattle.fcntl_table.specs.rule.Tables.{table_of}
 
 -- the table after the edit is made

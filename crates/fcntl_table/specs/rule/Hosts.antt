@@ -8,11 +8,9 @@ use Rattle.model.specs.rule.Limits.{IsHost}
 use Rattle.model.specs.rule.Descriptors.{Processes, is_open, with_descriptor}
 use Rattle.model.specs.rule.Table.{Table}
 use Rattle.model.specs.rule.Owners.{same_host}
-use Rattle.lock_table.specs.code.Rows.{TableParts, held}
+use Rattle.lock_table.specs.rule.Tables.{TableParts, held}
 use Rattle.descriptors.specs.declared.process_entry.ProcessEntry.{ProcessEntry}
-use Rattle.descriptors.specs.declared.edit.ProcessEdit.{ProcessEdit}
-use Rattle.descriptors.specs.code.Rows.{processes}
-use Rattle.descriptors.specs.code.Edits.{Fits}
+use Rattle.descriptors.specs.rule.Rows.{processes}
 
 -- the rows of each host's processes
 abbrev pub HostRows : Type 0
@@ -41,12 +39,6 @@ table_with hosts locks = record { limit = locks.limit; on = processes_of hosts; 
 -- there is an entry for the host
 abbrev pub IsKept : HostRows → Host → Type 0
 IsKept hosts host = IsSome (lookup (same_host host) hosts)
-
--- there is an entry for the host, and the edit can be made in its rows
-pub record FitsOn (hosts : HostRows) (host : Host) (edit : ProcessEdit) : Type 0 where
-  pub rows : List ProcessEntry
-  pub kept : lookup (same_host host) hosts ≡ Some rows
-  pub fits : Fits rows edit
 
 -- the table in which the host has these processes, with these locks
 abbrev pub shown : (ℕ → ℕ → Processes) → Host → List ProcessEntry → TableParts → Table

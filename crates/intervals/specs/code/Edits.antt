@@ -3,7 +3,7 @@ use Rattle.std.specs.Prelude.{ℕ, nat_le, if◌then◌else◌, List, length, Op
 use Rattle.intervals.specs.declared.byte_run.ByteRun.{ByteRun}
 use Rattle.intervals.specs.declared.span_edit.SpanEdit.{SpanEdit}
 use Rattle.intervals.specs.rule.Bytes.{put}
-use Rattle.intervals.specs.code.Runs.{value_at}
+use Rattle.intervals.specs.rule.Runs.{value_at}
 
 -- the value of each byte after a planned write; a map of more runs than the edit holds memory for stays as it is
 abbrev pub written : {V : Type 0} → SpanEdit V → List (ByteRun V) → ℕ → Option V

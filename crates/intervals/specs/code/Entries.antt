@@ -2,7 +2,7 @@
 use Rattle.std.specs.Prelude.{◌≡◌, ℕ, ◌<◌, ◌≤◌, ◌++◌, Option, None, List, [], ◌∷◌}
 use Rattle.intervals.specs.declared.byte_run.ByteRun.{ByteRun}
 use Rattle.intervals.specs.rule.Bytes.{greatest, IsRun}
-use Rattle.intervals.specs.code.Runs.{bytes_of}
+use Rattle.intervals.specs.rule.Runs.{bytes_of}
 
 -- each of the runs begins above byte n
 abbrev pub BeginAbove : {V : Type 0} → List (ByteRun V) → ℕ → Type 0

@@ -3,7 +3,8 @@ use Rattle.std.specs.Prelude.{◌≡◌, ℕ, zero, suc, ◌+◌, ◌<◌, ◌�
 use Rattle.intervals.specs.declared.byte_run.ByteRun.{ByteRun}
 use Rattle.intervals.specs.declared.row.Row.{Row}
 use Rattle.intervals.specs.rule.Bytes.{Range, greatest, put}
-use Rattle.intervals.specs.code.Runs.{value_at, AreRuns, EndsBelow}
+use Rattle.intervals.specs.code.Runs.{AreRuns, EndsBelow}
+use Rattle.intervals.specs.rule.Runs.{value_at}
 
 -- the runs of all parts, in order
 abbrev pub all_runs : {V : Type 0} → List (List (ByteRun V)) → List (ByteRun V)

@@ -2,7 +2,8 @@
 ghost use Rattle.std.specs.Prelude.{◌≡◌, ◌≤◌, ◌<◌, ◌+◌, ◌++◌, [], take, length, ℕ, if◌then◌else◌, Some};
 ghost use Rattle.std.specs.Vec.{vec_len, vec_capacity};
 ghost use Rattle.intervals.specs.rule.Bytes.{greatest, put};
-ghost use Rattle.intervals.specs.code.Runs.{bytes_of, value_at, AreRuns, EndsBelow, EndsFrom};
+ghost use Rattle.intervals.specs.code.Runs.{AreRuns, EndsBelow, EndsFrom};
+ghost use Rattle.intervals.specs.rule.Runs.{bytes_of, value_at};
 
 use super::{ByteRun, split_before};
 use crate::span::Span;

@@ -2,7 +2,8 @@
 ghost use Rattle.std.specs.Prelude.{◌≡◌, ◌≤◌, ◌<◌, ◌+◌, ◌-◌, ◌++◌, [], drop, length, ℕ};
 ghost use Rattle.std.specs.Vec.{vec_len, vec_capacity};
 ghost use Rattle.intervals.specs.rule.Bytes.{greatest, put};
-ghost use Rattle.intervals.specs.code.Runs.{value_at, AreRuns, EndsBelow};
+ghost use Rattle.intervals.specs.code.Runs.{AreRuns, EndsBelow};
+ghost use Rattle.intervals.specs.rule.Runs.{value_at};
 ghost use Rattle.intervals.specs.code.Entries.{BeginAbove};
 ghost use Rattle.intervals.specs.code.Parts.{AreSome, row_runs, runs_below, part_at, runs_above, runs_to, IsPut, IsRewritten};
 

@@ -1,7 +1,8 @@
 //! Searches of a map downwards and upwards from a span.
 ghost use Rattle.std.specs.Prelude.{◌≤◌, ◌+◌, None, MatchOption};
 ghost use Rattle.intervals.specs.rule.Bytes.{greatest, IsBarred};
-ghost use Rattle.intervals.specs.code.Runs.{value_at, IsLowestFree, IsHighestFree};
+ghost use Rattle.intervals.specs.code.Runs.{IsLowestFree, IsHighestFree};
+ghost use Rattle.intervals.specs.rule.Runs.{value_at};
 ghost use Rattle.intervals.specs.code.Entries.{NoneBelow, IsPrevious};
 
 use super::TreeMap;

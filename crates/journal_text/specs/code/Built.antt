@@ -1,6 +1,6 @@
 -- The entries that lines of a journal build.
 use Rattle.std.specs.Prelude.{List, [], ◌∷◌, ◌++◌, Option, Some, None, ⊤}
-use Rattle.messages.specs.code.Entries.{EntryFields, NamesItsIncarnation}
+use Rattle.messages.specs.rule.Entries.{EntryFields, NamesItsIncarnation}
 use Rattle.model.specs.declared.call.CallId.{CallId}
 use Rattle.model.specs.declared.reply.Reply.{Reply}
 use Rattle.messages.specs.declared.message.Message.{Message}

@@ -7,7 +7,7 @@ use Rattle.model.specs.declared.op.Op.TheVariants.{Process, Close, Lock, Unlock}
 use Rattle.model.specs.declared.op.ProcessCall.TheVariants.{Dup}
 use Rattle.model.specs.declared.reply.Reply.{Reply}
 use Rattle.model.specs.rule.Limits.{IsCall}
-use Rattle.messages.specs.code.Entries.{EntryFields, NamesItsCall, NamesItsIncarnation}
+use Rattle.messages.specs.rule.Entries.{EntryFields, NamesItsCall, NamesItsIncarnation}
 use Rattle.messages.specs.declared.event.Event.{Event}
 use Rattle.messages.specs.declared.event.Event.TheVariants.{AtNode, AtServer, Deliver}
 use Rattle.messages.specs.declared.event.NodeInput.TheVariants.{Call}

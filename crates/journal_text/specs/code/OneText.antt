@@ -2,7 +2,7 @@
 use Rattle.std.specs.Prelude.{◌≡◌, ℕ, List, All, map}
 use Rattle.message_text.specs.code.OneText.{HasOneValue}
 use Rattle.lockscript.specs.rule.Texts.{reply_text}
-use Rattle.messages.specs.code.Entries.{EntryFields}
+use Rattle.messages.specs.rule.Entries.{EntryFields}
 use Rattle.messages.specs.rule.Shapes.{IsShape, ShapeFields}
 use Rattle.messages.specs.declared.version.Version.{Version}
 use Rattle.journal_text.specs.declared.named_entry.NamedEntry.{NamedEntry}

@@ -1,7 +1,7 @@
 -- Locks that block an owner, and locks in the way of a mode, where one owner may be left out.
 use Rattle.std.specs.Prelude.{◌≡◌, ◌≢◌, ℕ, ◌≤◌, false, Option, None, Some, MatchOption, IsSome}
 use Rattle.intervals.specs.rule.Bytes.{Range}
-use Rattle.model.specs.rule.Locks.{FileLocks, bars, IsRegion, IsLowestBlocker, IsInWay, IsLowestInWay}
+use Rattle.model.specs.rule.Locks.{FileLocks, bars, IsRegion, IsLowestBlocker, IsLowestInWay}
 use Rattle.model.specs.declared.mode.Mode.{Mode}
 use Rattle.model.specs.declared.owner.Owner.{Owner}
 use Rattle.model.specs.declared.lock_info.LockInfo.{LockInfo}
@@ -26,10 +26,6 @@ pub record IsRegionBut (h : FileLocks) (out : Option Owner) (lock : LockInfo) : 
 pub record IsLowestBut (h : FileLocks) (out : Option Owner) (s : Range) (mode : Mode) (lock : Option LockInfo) : Type 0 where
   pub answer : MatchOption lock (IsClearBut h out s mode) (IsLowestInWay (IsRegionBut h out) s mode)
   pub ordered : IsSome lock → s.lo ≤ s.hi
-
--- a lock of a kind holds byte b and excludes the mode
-abbrev pub HasInWay : (LockInfo → Type 0) → Mode → ℕ → Type 0
-HasInWay IsOne mode b = (lock : LockInfo) × IsOne lock × IsInWay (record { lo = b; hi = b }) mode lock
 
 -- the set has each owner that holds a byte of the span
 abbrev pub AreNear : FileLocks → OwnerSet → Range → Type 0

@@ -8,14 +8,15 @@ use Rattle.intervals.specs.declared.byte_run.ByteRun.{ByteRun}
 use Rattle.intervals.specs.declared.span_edit.SpanEdit.{SpanEdit}
 use Rattle.intervals.specs.rule.Bytes.{nothing}
 use Rattle.intervals.specs.code.Edits.{written}
-use Rattle.intervals.specs.code.Runs.{value_at}
+use Rattle.intervals.specs.rule.Runs.{value_at}
 use Rattle.model.specs.declared.mode.Mode.{Mode}
 use Rattle.model.specs.declared.owner.Owner.{Owner}
 use Rattle.lock_table.specs.declared.owner_locks.OwnerLocks.{OwnerLocks}
 use Rattle.lock_table.specs.declared.place.Place.{Place}
 use Rattle.lock_table.specs.declared.lock_table.LockEdit.{LockEdit}
 use Rattle.lock_table.specs.declared.blocks.RowRoom.{RowRoom}
-use Rattle.lock_table.specs.code.Rows.{TableParts, all_rows, mark_cmp, row_cmp, IsBounded, IsRowAt, IsGap}
+use Rattle.lock_table.specs.code.Rows.{mark_cmp, row_cmp, IsBounded, IsRowAt, IsGap}
+use Rattle.lock_table.specs.rule.Tables.{TableParts, all_rows}
 
 -- each of the blocks has some rows
 abbrev pub AreSome : List (List OwnerLocks) → Type 0

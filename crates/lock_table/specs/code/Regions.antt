@@ -1,7 +1,7 @@
 -- The regions of one row.
 use Rattle.std.specs.Prelude.{◌≡◌, ℕ, ◌≤◌, Option}
 use Rattle.intervals.specs.rule.Bytes.{Range, greatest, IsBarred, IsFirstIn, IsRun}
-use Rattle.intervals.specs.code.Runs.{value_at}
+use Rattle.intervals.specs.rule.Runs.{value_at}
 use Rattle.model.specs.declared.mode.Mode.{Mode}
 use Rattle.model.specs.declared.lock_info.LockInfo.{LockInfo}
 use Rattle.lock_table.specs.declared.owner_locks.OwnerLocks.{OwnerLocks}

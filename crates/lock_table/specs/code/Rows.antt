@@ -1,13 +1,12 @@
 -- The rows of a lock table, and the locks that they hold.
 use Rattle.std.specs.Prelude.{◌≡◌, ◌≢◌, ℕ, zero, suc, ◌+◌, ◌*◌, ◌<◌, ◌≤◌, ◌⊎◌, false, Option, None, Some, length, get_or, List, [], ◌∷◌}
 use Rattle.std.specs.Borrow.{Bor}
-use Rattle.std.specs.List.{flat_map}
 use Rattle.std.specs.Ordering.{nat_cmp, ordering_then}
 use Rattle.std.specs.declared.cmp.Ordering.{Ordering}
 use Rattle.std.specs.declared.cmp.Ordering.TheVariants.{Less, Equal, Greater}
 use Rattle.intervals.specs.declared.byte_run.ByteRun.{ByteRun}
 use Rattle.intervals.specs.rule.Bytes.{greatest, nothing}
-use Rattle.intervals.specs.code.Runs.{value_at}
+use Rattle.intervals.specs.rule.Runs.{value_at}
 use Rattle.model.specs.rule.Locks.{FileLocks, Locks, no_locks, replace}
 use Rattle.model.specs.rule.Owners.{same_owner, owner_cmp}
 use Rattle.model.specs.declared.mode.Mode.{Mode}
@@ -15,24 +14,7 @@ use Rattle.model.specs.declared.owner.Owner.{Owner}
 use Rattle.lock_table.specs.declared.owner_locks.OwnerLocks.{OwnerLocks}
 use Rattle.lock_table.specs.declared.owner_set.OwnerSet.{OwnerSet}
 use Rattle.lock_table.specs.code.Pages.{flag_of, Has}
-
--- the locks that the rows hold: the first row of an owner in a file has its bytes
-unfoldable pub rows_held : List OwnerLocks → Locks
-rows_held [] = no_locks
-rows_held (r ∷ rest) = replace (rows_held rest) r.file r.owner (value_at r.spans)
-
--- the rows of all blocks, in order
-abbrev pub all_rows : List (List OwnerLocks) → List OwnerLocks
-all_rows = flat_map (λ rows. rows)
-
--- a lock table: its rows in blocks, and the greatest number of regions of an owner in a file
-pub record TableParts : Type 0 where
-  pub blocks : List (List OwnerLocks)
-  pub limit : ℕ
-
--- the locks that a table holds
-abbrev pub held : TableParts → Locks
-held t = rows_held (all_rows t.blocks)
+use Rattle.lock_table.specs.rule.Tables.{TableParts, held}
 
 -- both tables hold the same locks, and have the same limit
 pub record IsSameTable (a b : TableParts) : Type 0 where

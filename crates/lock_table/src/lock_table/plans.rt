@@ -4,7 +4,8 @@ ghost use Rattle.intervals.specs.rule.Bytes.{put};
 ghost use Rattle.model.specs.rule.Locks.{with_lock, regions};
 ghost use Rattle.model.specs.declared.owner.Owner.{Owner as SomeOwner};
 ghost use Rattle.lock_table.specs.declared.error.LockError.TheVariants.{NoLocks};
-ghost use Rattle.lock_table.specs.code.Rows.{bytes_in, runs_in, held};
+ghost use Rattle.lock_table.specs.code.Rows.{bytes_in, runs_in};
+ghost use Rattle.lock_table.specs.rule.Tables.{held};
 ghost use Rattle.lock_table.specs.code.Blocks.{Fits, HasRoom, IsPlaced, IsRowOf, RunsFit};
 
 use super::{LEAST_ROWS, LockEdit, LockTable, ROWS_OF_BLOCK};

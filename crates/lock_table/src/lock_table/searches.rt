@@ -3,9 +3,11 @@ ghost use Rattle.std.specs.Prelude.{◌≡◌, ◌≤◌, ◌<◌, ◌++◌, Lis
 ghost use Rattle.intervals.specs.rule.Bytes.{IsLargest};
 ghost use Rattle.model.specs.rule.Locks.{IsFree, IsRegion, IsLowestBlocker, IsClear, IsLowestInWay};
 ghost use Rattle.model.specs.declared.lock_info.LockInfo.{LockInfo as SomeLock};
-ghost use Rattle.lock_table.specs.code.Rows.{held, rows_held, AreRows};
-ghost use Rattle.lock_table.specs.code.Blockers.{AreNear, IsLowestBut, HasInWay};
-ghost use Rattle.lock_table.specs.code.Listing.{IsListing, ListsRegions};
+ghost use Rattle.lock_table.specs.code.Rows.{AreRows};
+ghost use Rattle.lock_table.specs.rule.Tables.{held, rows_held};
+ghost use Rattle.lock_table.specs.code.Blockers.{AreNear, IsLowestBut};
+ghost use Rattle.lock_table.specs.rule.Listing.{HasInWay};
+ghost use Rattle.lock_table.specs.rule.Listing.{IsListing, ListsRegions};
 
 use super::LockTable;
 use crate::order::{cmp_regions, keep_lowest};

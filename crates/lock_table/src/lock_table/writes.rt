@@ -1,7 +1,7 @@
 //! The changes of the table of a node, as they were planned.
 ghost use Rattle.std.specs.Prelude.{◌≡◌};
 ghost use Rattle.model.specs.rule.Locks.{with_lock};
-ghost use Rattle.lock_table.specs.code.Rows.{held};
+ghost use Rattle.lock_table.specs.rule.Tables.{held};
 ghost use Rattle.lock_table.specs.code.Blocks.{Fits, HasRoom, IsGapIn, IsRowIn, RunsFit};
 
 use super::{LockEdit, LockTable};

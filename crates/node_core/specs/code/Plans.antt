@@ -10,7 +10,7 @@ use Rattle.model.specs.rule.Limits.{IsNumber, most_processes}
 use Rattle.model.specs.rule.Locks.{with_lock}
 use Rattle.model.specs.rule.Table.{Table, descriptor, with_processes, closed_if, exited}
 use Rattle.lock_table.specs.code.Blocks.{Fits as LocksFit}
-use Rattle.lock_table.specs.code.Rows.{TableParts}
+use Rattle.lock_table.specs.rule.Tables.{TableParts}
 use Rattle.token_set.specs.code.Edits.{edited as token_edited}
 use Rattle.messages.specs.rule.Messages.{greatest_number}
 use Rattle.messages.specs.declared.message.Message.{Message}
@@ -27,10 +27,10 @@ use Rattle.node_core.specs.declared.file_row.FileRow.{FileRow}
 use Rattle.node_core.specs.declared.open_call.OpenCall.{OpenCall}
 use Rattle.node_core.specs.declared.open_calls.CallsEdit.{CallsEdit}
 use Rattle.node_core.specs.declared.open_calls.CallsEdit.TheVariants.{Same, Put, Gone, Left}
-use Rattle.descriptors.specs.code.Rows.{processes}
+use Rattle.descriptors.specs.rule.Rows.{processes}
 use Rattle.node_core.specs.rule.State.{FileState, NodeState, Effect, first_file, host}
 use Rattle.node_core.specs.rule.Answers.{answer_of}
-use Rattle.node_core.specs.code.Anchors.{IsAnchored}
+use Rattle.node_core.specs.rule.Anchors.{IsAnchored}
 use Rattle.node_core.specs.rule.Parts.{NodeParts, node_state, IsCallOf}
 
 -- the number of calls that the node took, after one more call or after none

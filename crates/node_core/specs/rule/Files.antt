@@ -1,7 +1,7 @@
 -- What the rows of a node say of its files.
 use Rattle.std.specs.Prelude.{ℕ, zero, suc, List, Option, Some, None}
 use Rattle.std.specs.List.{slice_get}
-use Rattle.token_set.specs.code.Sets.{token_of}
+use Rattle.token_set.specs.rule.Tokens.{token_of}
 use Rattle.node_core.specs.declared.file_row.FileRow.{FileRow}
 use Rattle.node_core.specs.rule.Answers.{answer_of}
 use Rattle.node_core.specs.rule.State.{FileState, first_file}

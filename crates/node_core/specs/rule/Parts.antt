@@ -6,7 +6,7 @@ use Rattle.model.specs.declared.reply.Reply.{Reply}
 use Rattle.model.specs.rule.Limits.{IsHost, IsNumber}
 use Rattle.model.specs.rule.Descriptors.{no_processes, after}
 use Rattle.model.specs.rule.Table.{Table, around, beside}
-use Rattle.lock_table.specs.code.Rows.{TableParts, held}
+use Rattle.lock_table.specs.rule.Tables.{TableParts, held}
 use Rattle.messages.specs.rule.Shapes.{ShapeFields}
 use Rattle.messages.specs.declared.message.Message.{Message}
 use Rattle.messages.specs.declared.message.Message.TheVariants.{Taken}
@@ -20,10 +20,10 @@ use Rattle.descriptors.specs.declared.process_entry.ProcessEntry.{ProcessEntry}
 use Rattle.node_core.specs.declared.file_row.FileRow.{FileRow}
 use Rattle.node_core.specs.declared.open_call.OpenCall.{OpenCall}
 use Rattle.model.specs.declared.op.ProcessCall.{ProcessCall}
-use Rattle.descriptors.specs.code.Rows.{processes}
-pub use Rattle.fcntl_table.specs.code.Targets.{IsOwn, IsSpan}
+use Rattle.descriptors.specs.rule.Rows.{processes}
+pub use Rattle.fcntl_table.specs.rule.Targets.{IsOwn, IsSpan}
 use Rattle.node_core.specs.rule.Files.{file_state}
-use Rattle.node_core.specs.code.Anchors.{AreAnchored}
+use Rattle.node_core.specs.rule.Anchors.{AreAnchored}
 use Rattle.node_core.specs.rule.State.{FileState, NodeState, Effect, with_file, quiet, host, process}
 use Rattle.node_core.specs.rule.Commands.{remembered, answer_to, is_conflict, is_node}
 

@@ -4,7 +4,7 @@
 ghost use Rattle.std.specs.Prelude.{◌≡◌, ◌≤◌, All, IfOk};
 ghost use Rattle.model.specs.rule.Anchors.{IsAnchored};
 ghost use Rattle.model.specs.rule.Locks.{IsOfNode};
-ghost use Rattle.lock_table.specs.code.Listing.{IsListing};
+ghost use Rattle.lock_table.specs.rule.Listing.{IsListing};
 ghost use Rattle.token_set.specs.code.Runs.{ListsRuns};
 ghost use Rattle.node_core.specs.rule.Parts.{node_state, IsCallOf};
 

@@ -1,6 +1,6 @@
 //! How a node takes a call that closes descriptors.
 ghost use Rattle.std.specs.Prelude.{◌≡◌, ◌<◌, ◌+◌, if◌then◌else◌, [], All, IfOk};
-ghost use Rattle.descriptors.specs.code.Rows.{processes};
+ghost use Rattle.descriptors.specs.rule.Rows.{processes};
 ghost use Rattle.model.specs.rule.Limits.{IsNumber, most_processes};
 ghost use Rattle.model.specs.rule.Descriptors.{has_open};
 ghost use Rattle.messages.specs.rule.Messages.{greatest_number};

@@ -2,7 +2,7 @@
 ghost use Rattle.std.specs.Prelude.{◌≡◌, ◌<◌, false, Ok, IfOk, IfSome};
 ghost use Rattle.model.specs.rule.Locks.{lowest_blocker};
 ghost use Rattle.model.specs.declared.reply.Reply.{Reply};
-ghost use Rattle.token_set.specs.code.Sets.{token_of};
+ghost use Rattle.token_set.specs.rule.Tokens.{token_of};
 ghost use Rattle.token_set.specs.rule.Tokens.{covers, desired};
 ghost use Rattle.node_core.specs.rule.Try.{requested, answered_if, tried, tried_if};
 ghost use Rattle.node_core.specs.declared.node_edit.NodeTableEdit.TheVariants.{Nothing};

@@ -10,14 +10,9 @@ use Rattle.messages.specs.declared.entry.Entry.{Entry}
 use Rattle.messages.specs.rule.Messages.{same_call}
 use Rattle.cluster_core.specs.declared.item.Item.{Item}
 use Rattle.cluster_core.specs.declared.item.Item.TheVariants.{Answered, Gone}
-use Rattle.cluster_core.specs.rule.Histories.{IsCalledAt, IsRepliedAt, IsDeclaredAt}
+use Rattle.cluster_core.specs.rule.Histories.{IsCalledAt, IsRepliedAt}
 use Rattle.run_clients.specs.declared.call_times.CallTimes.{CallTimes}
 use Rattle.run_clients.specs.code.LastCalls.{AreLast}
-
--- the item's call is made at the one position and answered at the other, and the item stands between; of a failed node both are that of the item
-abbrev pub IsTimed : List Entry → Item → ℕ → ℕ → Type 0
-IsTimed es (Answered at id pid op reply) begin end = IsCalledAt es id pid op begin × IsRepliedAt es id reply end × (begin ≤ at) × (at ≤ end)
-IsTimed es (Gone at node incarnation) begin end = IsDeclaredAt es node incarnation at × (begin ≡ at) × (end ≡ at)
 
 -- for each call, by its name: the position of an entry
 abbrev pub Positions : Type 0

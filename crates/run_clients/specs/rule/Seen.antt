@@ -15,7 +15,7 @@ use Rattle.cluster_core.specs.rule.World.{WorldState, first_world, journal_limit
 use Rattle.cluster_core.specs.rule.Runs.{Leads}
 use Rattle.cluster_core.specs.declared.item.Item.{Item}
 use Rattle.cluster_core.specs.declared.item.Item.TheVariants.{Answered, Gone}
-use Rattle.cluster_core.specs.rule.Histories.{caller, ItemStep, IsCalledAt, IsRepliedAt, HasHistory, EachAtItsPlace}
+use Rattle.cluster_core.specs.rule.Histories.{caller, ItemStep, IsCalledAt, IsRepliedAt, HasHistory, EachAtItsPlace, IsDeclaredAt}
 use Rattle.client_history.specs.declared.client_call.ClientCall.{ClientCall}
 use Rattle.client_history.specs.rule.Explained.{IsExplainedBy, always}
 use Rattle.run_clients.specs.declared.answer_time.AnswerTime.{AnswerTime}
@@ -23,7 +23,6 @@ use Rattle.run_clients.specs.declared.answer_time.AnswerTime.TheVariants.{At, Ne
 use Rattle.run_clients.specs.declared.deed.Deed.{Deed}
 use Rattle.run_clients.specs.declared.file_call.FileCall.{FileCall}
 use Rattle.run_clients.specs.rule.Deeds.{call_deeds, gone_deeds, lock_deed}
-use Rattle.run_clients.specs.code.Times.{IsTimed}
 
 -- the operation of an item; of a node that fails the exit of its processes
 abbrev pub op_of : Item → Op
@@ -38,6 +37,11 @@ item_deeds t (Gone at node incarnation) = gone_deeds t node incarnation
 -- the deed as a call of its owner
 abbrev pub call_of : Op → ℕ → AnswerTime → Deed → FileCall
 call_of op begin end d = record { file = d.file; op = op; owner = d.owner; begin = begin; end = end; act = d.act }
+
+-- the item's call is made at the one position and answered at the other, and the item stands between; of a failed node both are that of the item
+abbrev pub IsTimed : List Entry → Item → ℕ → ℕ → Type 0
+IsTimed es (Answered at id pid op reply) begin end = IsCalledAt es id pid op begin × IsRepliedAt es id reply end × (begin ≤ at) × (at ≤ end)
+IsTimed es (Gone at node incarnation) begin end = IsDeclaredAt es node incarnation at × (begin ≡ at) × (end ≡ at)
 
 -- the calls of the items, which lead from one table to another: for each item its deeds there, from its call to its reply
 abbrev pub AreSeen : List Entry → Table → List Item → List FileCall → Table → Type 0

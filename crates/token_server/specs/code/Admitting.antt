@@ -1,5 +1,5 @@
 -- The admission of requests from the queue, as far as a loop has come.
-use Rattle.std.specs.Prelude.{◌≡◌, ◌+◌, Bool, true, not, ◌&&◌, ◌||◌, List, [], ◌∷◌, ◌++◌, filter, count_by}
+use Rattle.std.specs.Prelude.{◌≡◌, ◌+◌, Bool, not, ◌||◌, List, [], ◌++◌, filter, count_by}
 use Rattle.std.specs.List.{list_any}
 use Rattle.model.specs.declared.call.CallId.{CallId}
 use Rattle.token_server.specs.declared.token_queue.token_request.TokenRequest.{TokenRequest}
@@ -13,11 +13,6 @@ has_call_of rs r = list_any (is_of_call r.call) rs
 -- the requests without those of the calls of these
 abbrev pub all_but : List TokenRequest → List TokenRequest → List TokenRequest
 all_but fresh rs = filter (λ r. not (has_call_of fresh r)) rs
-
--- each request of the list needs a byte of an active one, or of one before it: none is admitted from the queue
-abbrev pub all_stay : List TokenRequest → List TokenRequest → List TokenRequest → Bool
-all_stay active before [] = true
-all_stay active before (r ∷ rest) = (meets_some r active || meets_some r before) && all_stay active (before ++ r ∷ []) rest
 
 -- these requests of that part of the queue are admitted beside the active ones, and the others stay
 pub record IsAdmitted (active done fresh : List TokenRequest) : Type 0 where

@@ -10,7 +10,7 @@ use Rattle.intervals.specs.declared.tree_map.TreeMap.{TreeMap}
 use Rattle.model.specs.declared.level.Level.{Level}
 use Rattle.model.specs.declared.mode.Mode.{Mode}
 use Rattle.token_set.specs.rule.Releases.{lowered}
-use Rattle.token_set.specs.code.Sets.{token_of}
+use Rattle.token_set.specs.rule.Tokens.{token_of}
 use Rattle.messages.specs.declared.token_run.TokenRun.{TokenRun}
 use Rattle.messages.specs.rule.Reports.{reported}
 

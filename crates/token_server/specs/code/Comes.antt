@@ -7,7 +7,7 @@ use Rattle.token_server.specs.rule.Requests.{is_of_call, meets, requests_in}
 use Rattle.token_server.specs.rule.Actives.{requests_of}
 use Rattle.token_server.specs.declared.gone.Gone.{Gone}
 use Rattle.token_server.specs.rule.Serve.{meets_some}
-use Rattle.token_server.specs.code.Admitting.{all_stay}
+use Rattle.token_server.specs.rule.Obstacles.{all_stay}
 use Rattle.token_server.specs.code.Ready.{AreDistinct}
 use Rattle.token_server.specs.code.Sketches.{without, still_active}
 

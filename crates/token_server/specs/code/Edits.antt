@@ -18,7 +18,7 @@ use Rattle.token_server.specs.rule.State.{ServerState, awaits}
 use Rattle.token_server.specs.rule.Serve.{serve}
 use Rattle.token_server.specs.code.Admitting.{all_but, IsAdmitted}
 use Rattle.token_server.specs.declared.sketch.Sketch.{Sketch}
-use Rattle.token_server.specs.code.Obstacles.{obstacle}
+use Rattle.token_server.specs.rule.Obstacles.{obstacle}
 use Rattle.token_server.specs.code.Changes.{rows_after, deaths_after}
 use Rattle.token_server.specs.code.Sketches.{without, still_active, queue_moved, waiting_moved, sketched}
 use Rattle.token_server.specs.rule.RowParts.{rows_of, deaths_of}

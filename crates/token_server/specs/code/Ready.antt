@@ -8,8 +8,8 @@ use Rattle.token_server.specs.declared.token_queue.token_request.TokenRequest.{T
 use Rattle.token_server.specs.rule.Requests.{is_of_call}
 use Rattle.token_server.specs.rule.State.{ServerState, requests, begin, awaits}
 use Rattle.token_server.specs.rule.Parts.{ServerParts, server_state}
-use Rattle.token_server.specs.code.Obstacles.{obstacle, are_apart, is_idle}
-use Rattle.token_server.specs.code.Admitting.{all_stay}
+use Rattle.token_server.specs.rule.Obstacles.{obstacle, are_apart, is_idle}
+use Rattle.token_server.specs.rule.Obstacles.{all_stay}
 
 -- no two of the requests are of one call
 abbrev pub AreDistinct : List TokenRequest → Type 0

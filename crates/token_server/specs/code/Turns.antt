@@ -7,7 +7,7 @@ use Rattle.token_server.specs.declared.change.ServerEdit.{ServerEdit}
 use Rattle.token_server.specs.declared.sent_command.SentCommand.{SentCommand}
 use Rattle.token_server.specs.rule.State.{ServerState}
 use Rattle.token_server.specs.rule.Serve.{served, each_served}
-use Rattle.token_server.specs.code.Obstacles.{obstacle, is_idle}
+use Rattle.token_server.specs.rule.Obstacles.{obstacle, is_idle}
 use Rattle.token_server.specs.code.Told.{with_told, commands_told}
 use Rattle.token_server.specs.code.Edits.{keeps}
 

@@ -1,7 +1,7 @@
 -- What the code keeps of the nodes, and the rows of the rules that it stands for.
 use Rattle.std.specs.Prelude.{◌≡◌, ℕ, zero, suc, ◌<◌, List, length, slice_get, Option, Some, None}
 use Rattle.token_set.specs.rule.Tokens.{Token}
-use Rattle.token_set.specs.code.Sets.{token_of}
+use Rattle.token_set.specs.rule.Tokens.{token_of}
 use Rattle.token_server.specs.declared.known_nodes.token_holder.TokenHolder.{TokenHolder}
 use Rattle.token_server.specs.declared.known_nodes.known_node.KnownNode.{KnownNode}
 use Rattle.token_server.specs.rule.Rows.{Commands, Row}

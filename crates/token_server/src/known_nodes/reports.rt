@@ -1,6 +1,6 @@
 //! Tokens that nodes report to a token server that was rebuilt.
 ghost use Rattle.std.specs.Prelude.{◌≡◌, IfOk};
-ghost use Rattle.token_set.specs.code.Sets.{token_of};
+ghost use Rattle.token_set.specs.rule.Tokens.{token_of};
 ghost use Rattle.messages.specs.rule.Reports.{reported};
 ghost use Rattle.token_server.specs.code.Rebuilds.{mode_of};
 

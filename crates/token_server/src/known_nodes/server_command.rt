@@ -1,7 +1,7 @@
 //! The commands of a token server: grants, revokes and hellos, as the server keeps them while they have no answer. A
 //! function here that gives a `Result` answers `AllocError` where a request for memory was refused.
 ghost use Rattle.std.specs.Prelude.{◌≡◌, ◌≤◌, IfOk, IfSome, Some};
-ghost use Rattle.token_set.specs.code.Sets.{token_of};
+ghost use Rattle.token_set.specs.rule.Tokens.{token_of};
 ghost use Rattle.token_set.specs.code.Edits.{edited as edited_token};
 ghost use Rattle.token_server.specs.rule.Rows.{is_hello, is_grant, revoked_mode, asks_token};
 ghost use Rattle.token_server.specs.code.Orders.{message_of};

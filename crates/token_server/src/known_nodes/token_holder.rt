@@ -2,7 +2,7 @@
 ghost use Rattle.std.specs.Prelude.{◌≡◌, ◌↔◌, IsTrue, IfOk};
 ghost use Rattle.intervals.specs.rule.Bytes.{whole};
 ghost use Rattle.token_set.specs.rule.Tokens.{conflicts};
-ghost use Rattle.token_set.specs.code.Sets.{token_of};
+ghost use Rattle.token_set.specs.rule.Tokens.{token_of};
 ghost use Rattle.token_server.specs.rule.RowParts.{SameRow, row_state};
 ghost use Rattle.token_server.specs.code.RowEdits.{seen};
 

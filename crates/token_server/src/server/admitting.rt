@@ -3,7 +3,8 @@ ghost use Rattle.std.specs.Prelude.{◌≡◌, ◌+◌, ◌<◌, ◌≤◌, ◌+
 ghost use Rattle.token_server.specs.rule.Requests.{meets, requests_in};
 ghost use Rattle.token_server.specs.rule.Actives.{requests_of};
 ghost use Rattle.token_server.specs.rule.Serve.{meets_some};
-ghost use Rattle.token_server.specs.code.Admitting.{all_stay, IsAdmitted};
+ghost use Rattle.token_server.specs.code.Admitting.{IsAdmitted};
+ghost use Rattle.token_server.specs.rule.Obstacles.{all_stay};
 ghost use Rattle.token_server.specs.code.Ready.{AreDistinct};
 ghost use Rattle.token_server.specs.code.Sketches.{without, still_active, queue_moved};
 ghost use Rattle.token_server.specs.code.Comes.{served_on, left_in, NeedsAllOf, HasEnded};

@@ -4,7 +4,7 @@ ghost use Rattle.std.specs.Prelude.{◌≡◌, false, All, IfOk, MatchOption, ma
 ghost use Rattle.token_server.specs.rule.Requests.{requests_in};
 ghost use Rattle.token_server.specs.rule.Actives.{requests_of};
 ghost use Rattle.token_server.specs.rule.Rows.{is_awaited};
-ghost use Rattle.token_server.specs.code.Obstacles.{obstacle, is_idle};
+ghost use Rattle.token_server.specs.rule.Obstacles.{obstacle, is_idle};
 ghost use Rattle.token_server.specs.rule.RowParts.{row_state};
 ghost use Rattle.token_server.specs.rule.Parts.{server_state};
 ghost use Rattle.token_server.specs.code.Readers.{nodes_where, Shows, IsRow};

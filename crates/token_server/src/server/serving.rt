@@ -4,7 +4,7 @@ ghost use Rattle.std.specs.Option.{option_map, option_to_list};
 ghost use Rattle.messages.specs.rule.Epochs.{before_epoch};
 ghost use Rattle.token_server.specs.rule.Serve.{narrowed, granted_span, served, each_served, serve};
 ghost use Rattle.token_server.specs.code.Told.{row_told, with_told, commands_told};
-ghost use Rattle.token_server.specs.code.Obstacles.{obstacle, are_apart, is_idle};
+ghost use Rattle.token_server.specs.rule.Obstacles.{obstacle, are_apart, is_idle};
 ghost use Rattle.token_server.specs.rule.RowParts.{known_node_at};
 ghost use Rattle.token_server.specs.rule.Parts.{server_state};
 ghost use Rattle.token_server.specs.code.Ready.{AreOfEpoch};

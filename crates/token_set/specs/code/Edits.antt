@@ -3,7 +3,7 @@ use Rattle.intervals.specs.declared.tree_map.TreeMap.{TreeMap}
 use Rattle.intervals.specs.code.Edits.{written}
 use Rattle.model.specs.declared.level.Level.{Level}
 use Rattle.token_set.specs.rule.Tokens.{Token}
-use Rattle.token_set.specs.code.Sets.{token_of}
+use Rattle.token_set.specs.rule.Tokens.{token_of}
 use Rattle.token_set.specs.declared.edit.TokenEdit.{TokenEdit}
 use Rattle.token_set.specs.declared.edit.TokenEdit.TheVariants.{Same, Write, Whole}
 

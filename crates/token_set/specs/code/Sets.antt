@@ -1,17 +1,11 @@
 -- The token that a map of levels stands for, and its exclusive bytes.
 use Rattle.std.specs.Prelude.{◌≡◌, ◌≢◌, ℕ, false, ◌&&◌, if◌then◌else◌, ◌<◌, ◌≤◌, Option, Some, None, IsSome}
-use Rattle.intervals.specs.declared.tree_map.TreeMap.{TreeMap}
 use Rattle.intervals.specs.rule.Bytes.{Range, is_in, AllAre}
-use Rattle.intervals.specs.code.Runs.{value_at}
 use Rattle.model.specs.declared.mode.Mode.{Mode}
 use Rattle.model.specs.declared.mode.Mode.TheVariants.{Read, Write}
 use Rattle.model.specs.declared.level.Level.{Level}
 use Rattle.model.specs.declared.level.Level.TheVariants.{Exclusive}
 use Rattle.token_set.specs.rule.Tokens.{Token, level_conflicts}
-
--- the token that a map of levels stands for
-abbrev pub token_of : TreeMap Level → Token
-token_of = value_at
 
 -- the level of the bytes that conflict with a lock of the mode on another node: exclusive for read, any level for write
 abbrev pub bar_of : Mode → Option Level

@@ -3,7 +3,7 @@ use Rattle.std.specs.Prelude.{◌≡◌, ℕ, true}
 use Rattle.intervals.specs.rule.Bytes.{put}
 use Rattle.model.specs.declared.mode.Mode.{Mode}
 use Rattle.token_set.specs.rule.Tokens.{Token, level_conflicts}
-use Rattle.token_set.specs.code.Sets.{token_of}
+use Rattle.token_set.specs.rule.Tokens.{token_of}
 use Rattle.token_set.specs.declared.view.TokenView.{TokenView}
 use Rattle.token_set.specs.declared.view.TokenView.TheVariants.{Now, With}
 

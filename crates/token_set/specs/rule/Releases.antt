@@ -10,7 +10,7 @@ use Rattle.model.specs.declared.owner.Owner.{Owner}
 use Rattle.model.specs.declared.lock_info.LockInfo.{LockInfo}
 use Rattle.model.specs.rule.Owners.{owner_at, most_owners}
 use Rattle.model.specs.rule.Locks.{FileLocks, bars, IsRegion, IsOfNode, IsClear, IsInWay, IsLowestInWay, lowest_in_way}
-use Rattle.lock_table.specs.code.Blockers.{HasInWay}
+use Rattle.lock_table.specs.rule.Listing.{HasInWay}
 use Rattle.token_set.specs.rule.Tokens.{Token, serves}
 use Rattle.token_set.specs.declared.gave_up.GaveUp.{GaveUp}
 use Rattle.token_set.specs.declared.gave_up.GaveUp.TheVariants.{Released, Conflict}

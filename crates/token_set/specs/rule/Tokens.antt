@@ -8,6 +8,8 @@ use Rattle.model.specs.declared.level.Level.{Level}
 use Rattle.model.specs.declared.level.Level.TheVariants.{Shared, Exclusive}
 use Rattle.model.specs.declared.policy.Policy.{Policy}
 use Rattle.model.specs.declared.policy.Policy.TheVariants.{Wide, Exact}
+use Rattle.intervals.specs.declared.tree_map.TreeMap.{TreeMap}
+use Rattle.intervals.specs.rule.Runs.{value_at}
 
 -- a token: the level of each byte, none where the node may lock nothing without asking
 abbrev pub Token : Type 0
@@ -55,3 +57,7 @@ holds_nothing t = all_pass (λ b. is_none (t b)) 0 (size whole)
 abbrev pub desired : Policy → Token → Range → Range
 desired Exact t required = required
 desired Wide t required = if holds_nothing t then whole else record { lo = required.lo; hi = greatest }
+
+-- the token that a map of levels stands for
+abbrev pub token_of : TreeMap Level → Token
+token_of = value_at

@@ -2,7 +2,7 @@
 ghost use Rattle.std.specs.Prelude.{◌≡◌, ◌<◌, true, Some, None, IfOk};
 ghost use Rattle.intervals.specs.code.Edits.{written};
 ghost use Rattle.token_set.specs.rule.Tokens.{covers, raised, conflicts};
-ghost use Rattle.token_set.specs.code.Sets.{token_of};
+ghost use Rattle.token_set.specs.rule.Tokens.{token_of};
 ghost use Rattle.token_set.specs.rule.Releases.{lowered, after_giving_up};
 ghost use Rattle.token_set.specs.code.Edits.{edited};
 

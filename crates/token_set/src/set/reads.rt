@@ -2,7 +2,8 @@
 ghost use Rattle.std.specs.Prelude.{◌≡◌, ◌≤◌, ◌<◌, ℕ, true, false, Some, None, IfOk};
 ghost use Rattle.intervals.specs.rule.Bytes.{greatest, IsLargest, NoneIn, largest_around};
 ghost use Rattle.token_set.specs.rule.Tokens.{covers, conflicts, level_conflicts, holds_nothing};
-ghost use Rattle.token_set.specs.code.Sets.{token_of, bar_of};
+ghost use Rattle.token_set.specs.code.Sets.{bar_of};
+ghost use Rattle.token_set.specs.rule.Tokens.{token_of};
 ghost use Rattle.token_set.specs.code.Edits.{edited};
 ghost use Rattle.token_set.specs.code.Views.{viewed};
 ghost use Rattle.token_set.specs.code.Runs.{ListsRuns};

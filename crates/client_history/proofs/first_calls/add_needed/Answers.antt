@@ -1,7 +1,7 @@
 use Rattle.std.proofs.Common.{length, refl, sym, ◌∙◌}
 use Rattle.std.proofs.lemmas.Bool.{false≢true}
 use Rattle.std.proofs.lemmas.Option.{slice_get_read}
-use Rattle.lock_table.specs.code.Rows.{held}
+use Rattle.lock_table.specs.rule.Tables.{held}
 use Rattle.client_history.specs.declared.open_client_call.OpenClientCall.{OpenClientCall}
 use Rattle.client_history.specs.code.ClosedSets.{IsNeeded}
 use Rattle.client_history.specs.code.OpenCalls.{IsLeft, IsIn, IsLeftOf}

@@ -1,6 +1,6 @@
 use Rattle.std.proofs.Common.{◌≡◌, ℕ, ◌<◌, ◌≤◌, [], length, refl, subst, arith}
 use Rattle.std.proofs.lemmas.Option.{slice_get_read}
-use Rattle.lock_table.specs.code.Rows.{held}
+use Rattle.lock_table.specs.rule.Tables.{held}
 use Rattle.client_history.specs.declared.open_client_call.OpenClientCall.{OpenClientCall}
 use Rattle.client_history.specs.code.OpenCalls.{IsIn}
 use Rattle.client_history.proofs.SetLaws.{below_more, below_all, grown_more, in_grown, IsServedAt, served_at_more, closed_all, none_of, none_once, few, old_at}

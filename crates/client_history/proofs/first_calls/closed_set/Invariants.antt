@@ -1,5 +1,5 @@
 use Rattle.std.proofs.Common.{◌≡◌, ◌-◌, [], length}
-use Rattle.lock_table.specs.code.Rows.{held}
+use Rattle.lock_table.specs.rule.Tables.{held}
 use Rattle.client_history.specs.declared.client_call.ClientCall.{ClientCall}
 use Rattle.client_history.specs.declared.open_client_call.OpenClientCall.{OpenClientCall}
 use Rattle.client_history.specs.code.ClosedSets.{IsGrown}

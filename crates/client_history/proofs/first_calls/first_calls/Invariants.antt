@@ -1,4 +1,4 @@
-use Rattle.lock_table.specs.code.Rows.{held}
+use Rattle.lock_table.specs.rule.Tables.{held}
 use Rattle.client_history.proofs.SetLaws.{Below, MayBeFirst}
 use Rattle.client_history.proofs.first_calls.first_calls.Given as goal
 

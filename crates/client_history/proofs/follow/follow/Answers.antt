@@ -1,7 +1,7 @@
 use Rattle.std.specs.Prelude.{Err}
 use Rattle.std.proofs.Common.{ap, Some, None}
 use Rattle.intervals.specs.rule.Bytes.{put}
-use Rattle.lock_table.specs.code.Rows.{held}
+use Rattle.lock_table.specs.rule.Tables.{held}
 use Rattle.client_history.proofs.Regions.{never_many, is_memory}
 use Rattle.client_history.proofs.follow.follow.Goals as goal
 

@@ -2,7 +2,7 @@ use Rattle.std.proofs.Common.{◌≤◌, refl}
 use Rattle.std.proofs.lemmas.Bool.{false≢true}
 use Rattle.std.proofs.lemmas.Option.{MatchOption-at_none}
 use Rattle.model.specs.rule.Locks.{IsFree, IsLowestBlocker}
-use Rattle.lock_table.specs.code.Rows.{held}
+use Rattle.lock_table.specs.rule.Tables.{held}
 use Rattle.client_history.specs.rule.Explained.{the_file}
 use Rattle.client_history.proofs.Blocked.{free_not_blocked, lowest_blocks}
 use Rattle.client_history.proofs.follow.is_blocked.Goals as goal

@@ -1,6 +1,6 @@
 use Rattle.std.proofs.Common.{◌≤◌}
 use Rattle.std.proofs.lemmas.Bool.{false≢true}
-use Rattle.lock_table.specs.code.Rows.{held}
+use Rattle.lock_table.specs.rule.Tables.{held}
 use Rattle.client_history.proofs.Blocked.{blocked_is_not_free}
 use Rattle.client_history.proofs.follow.is_free.Goals as goal
 

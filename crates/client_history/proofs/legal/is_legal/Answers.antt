@@ -1,6 +1,6 @@
 use Rattle.std.proofs.lemmas.Bool.{false≢true}
 use Rattle.model.specs.rule.Locks.{no_locks}
-use Rattle.lock_table.specs.code.Rows.{held}
+use Rattle.lock_table.specs.rule.Tables.{held}
 use Rattle.client_history.proofs.Orders.{is_at}
 use Rattle.client_history.proofs.Steps.{leads_more, leads_nowhere}
 use Rattle.client_history.proofs.legal.is_legal.Goals as goal

@@ -1,6 +1,6 @@
 use Rattle.std.proofs.Common.{◌≡◌, take}
 use Rattle.model.specs.rule.Locks.{no_locks}
-use Rattle.lock_table.specs.code.Rows.{held}
+use Rattle.lock_table.specs.rule.Tables.{held}
 use Rattle.client_history.specs.rule.Explained.{Leads}
 use Rattle.client_history.proofs.legal.is_legal.Given as goal
 

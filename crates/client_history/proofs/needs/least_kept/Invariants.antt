@@ -1,7 +1,7 @@
 use Rattle.std.proofs.Common.{◌≤◌}
 use Rattle.std.specs.Prelude.{◌≢◌}
 use Rattle.model.specs.rule.Locks.{IsRegion, IsInWay}
-use Rattle.lock_table.specs.code.Rows.{held}
+use Rattle.lock_table.specs.rule.Tables.{held}
 use Rattle.client_history.specs.rule.Explained.{the_file}
 use Rattle.client_history.specs.code.FirstCalls.{NeedsFree}
 use Rattle.client_history.proofs.needs.least_kept.Given as goal

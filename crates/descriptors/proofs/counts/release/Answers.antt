@@ -1,7 +1,7 @@
 use Rattle.std.proofs.Common.{◌≡◌, ◌+◌, ℕ, List, Some, length, refl, ap, sym, ◌∙◌}
 use Rattle.descriptors.specs.code.Counts.{count_of, references_below}
 use Rattle.std.proofs.lemmas.List.{length-set}
-use Rattle.descriptors.specs.code.Rows.{processes}
+use Rattle.descriptors.specs.rule.Rows.{processes}
 use Rattle.descriptors.proofs.RowLaws.{opened-number}
 use Rattle.descriptors.proofs.CountLaws.{released-more, shared-none, below-none, left-counted}
 use Rattle.descriptors.proofs.counts.release.Goals as goal

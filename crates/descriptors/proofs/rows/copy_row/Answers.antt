@@ -1,6 +1,6 @@
 use Rattle.std.specs.Prelude.{true}
 use Rattle.std.proofs.Common.{sym, ◌∙◌, ap}
-use Rattle.descriptors.specs.code.Rows.{row, processes}
+use Rattle.descriptors.specs.rule.Rows.{row, processes}
 use Rattle.descriptors.proofs.RowLaws.{processes-reset, processes-runs, processes-opened, rows-set, copied-row}
 use Rattle.descriptors.proofs.rows.copy_row.Goals as goal
 

@@ -1,5 +1,5 @@
 use Rattle.std.proofs.Common.{sym, ◌∙◌}
-use Rattle.descriptors.specs.code.Rows.{row}
+use Rattle.descriptors.specs.rule.Rows.{row}
 use Rattle.descriptors.proofs.RowLaws.{processes-refer, processes-runs, rows-set, referred-row}
 use Rattle.descriptors.proofs.rows.refer.Goals as goal
 

@@ -2,8 +2,8 @@ use Rattle.std.proofs.Common.{◌∙◌, sym, ap, subst, Bool, if◌then◌else�
 use Rattle.model.specs.declared.opened.Opened.{Opened}
 use Rattle.model.specs.rule.Owners.{process_owner, description_owner}
 use Rattle.model.specs.rule.Locks.{without_owner, without_owner_anywhere}
-use Rattle.lock_table.specs.code.Rows.{held}
-use Rattle.descriptors.specs.code.Rows.{processes}
+use Rattle.lock_table.specs.rule.Tables.{held}
+use Rattle.descriptors.specs.rule.Rows.{processes}
 use Rattle.fcntl_table.specs.rule.Hosts.{Closes, process_at}
 use Rattle.fcntl_table.proofs.ExitLaws.{closed-none, closed-some}
 use Rattle.fcntl_table.proofs.shut.close_at.Goals as goal

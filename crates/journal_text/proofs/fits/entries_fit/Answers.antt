@@ -1,7 +1,7 @@
 use Rattle.std.proofs.Common.{All, List, subst}
 use Rattle.std.proofs.lemmas.List.{take_all}
 use Rattle.std.proofs.lemmas.List.Elements.{All-more}
-use Rattle.messages.specs.code.Entries.{EntryFields}
+use Rattle.messages.specs.rule.Entries.{EntryFields}
 use Rattle.journal_text.specs.code.Fits.{FitsEntry}
 use Rattle.journal_text.proofs.fits.entries_fit.Goals as goal
 

@@ -1,5 +1,5 @@
 use Rattle.std.proofs.Common.{All, List, subst}
-use Rattle.messages.specs.code.Entries.{EntryFields}
+use Rattle.messages.specs.rule.Entries.{EntryFields}
 use Rattle.messages.specs.rule.Shapes.{IsShape}
 use Rattle.journal_text.specs.code.Fits.{FitsEntry}
 use Rattle.journal_text.proofs.Limits.{read-run}

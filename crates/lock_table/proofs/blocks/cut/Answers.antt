@@ -2,7 +2,7 @@ use Rattle.std.proofs.Common.{◌≡◌, suc, ◌+◌, ◌<◌, [], get_or, leng
 use Rattle.std.specs.List.{insert}
 use Rattle.std.proofs.lemmas.List.{get_or_default, length-take, length-drop}
 use Rattle.lock_table.specs.declared.owner_locks.OwnerLocks.{OwnerLocks}
-use Rattle.lock_table.specs.code.Rows.{all_rows}
+use Rattle.lock_table.specs.rule.Tables.{all_rows}
 use Rattle.lock_table.proofs.BlockRows.{cut_rows, some-set, some-insert}
 use Rattle.lock_table.proofs.blocks.cut.Goals as goal
 

@@ -3,7 +3,7 @@ use Rattle.std.specs.List.{insert}
 use Rattle.std.proofs.lemmas.List.{get_or_default}
 use Rattle.std.proofs.lemmas.List.Edits.{length-insert}
 use Rattle.lock_table.specs.declared.owner_locks.OwnerLocks.{OwnerLocks}
-use Rattle.lock_table.specs.code.Rows.{all_rows}
+use Rattle.lock_table.specs.rule.Tables.{all_rows}
 use Rattle.lock_table.proofs.BlockRows.{all_insert_row, some-set}
 use Rattle.lock_table.proofs.blocks.insert_in.Goals as goal
 

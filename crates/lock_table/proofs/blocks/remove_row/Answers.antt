@@ -2,7 +2,7 @@ use Rattle.std.proofs.Common.{◌≡◌, ◌<◌, [], get_or, length, set, List,
 use Rattle.std.specs.List.{remove}
 use Rattle.std.proofs.lemmas.List.{get_or_default, get_or-set_same, length-set}
 use Rattle.lock_table.specs.declared.owner_locks.OwnerLocks.{OwnerLocks}
-use Rattle.lock_table.specs.code.Rows.{all_rows}
+use Rattle.lock_table.specs.rule.Tables.{all_rows}
 use Rattle.lock_table.proofs.Writes.{remove-set}
 use Rattle.lock_table.proofs.BlockRows.{all_remove_row, block_there, drop_empty, some-set, some-remove}
 use Rattle.lock_table.proofs.blocks.remove_row.Goals as goal

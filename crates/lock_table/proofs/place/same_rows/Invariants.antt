@@ -1,5 +1,5 @@
 use Rattle.std.proofs.Common.{◌++◌, length}
-use Rattle.lock_table.specs.code.Rows.{all_rows}
+use Rattle.lock_table.specs.rule.Tables.{all_rows}
 use Rattle.lock_table.specs.code.Blocks.{AreSome}
 use Rattle.lock_table.proofs.SameRows.{Left}
 use Rattle.lock_table.proofs.place.same_rows.Given as goal

@@ -2,11 +2,11 @@ use Rattle.std.specs.Prelude.{ℕ}
 use Rattle.std.proofs.Common.{inl, inr, arith}
 use Rattle.std.proofs.lemmas.Bool.{cases_lt}
 use Rattle.intervals.specs.declared.byte_run.ByteRun.{ByteRun}
-use Rattle.intervals.specs.code.Runs.{bytes_of}
+use Rattle.intervals.specs.rule.Runs.{bytes_of}
 use Rattle.intervals.specs.code.Entries.{IsNext}
 use Rattle.model.specs.declared.level.Level.{Level}
 use Rattle.token_set.specs.rule.Tokens.{Token}
-use Rattle.token_set.specs.code.Sets.{token_of}
+use Rattle.token_set.specs.rule.Tokens.{token_of}
 use Rattle.token_set.specs.code.Runs.{IsNextRun}
 use Rattle.token_set.proofs.set.run_from.Goals as goal
 

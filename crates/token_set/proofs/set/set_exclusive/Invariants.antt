@@ -1,5 +1,5 @@
 use Rattle.std.proofs.Common.{◌+◌, ◌-◌}
-use Rattle.token_set.specs.code.Sets.{token_of}
+use Rattle.token_set.specs.rule.Tokens.{token_of}
 use Rattle.token_set.proofs.LevelLaws.{IsDoneTo}
 use Rattle.token_set.proofs.set.set_exclusive.Given as goal
 

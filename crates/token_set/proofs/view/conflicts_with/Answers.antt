@@ -2,7 +2,7 @@ use Rattle.std.specs.Prelude.{◌≡◌, Bool, true, false}
 use Rattle.std.proofs.Common.{refl, ◌∙◌}
 use Rattle.intervals.specs.rule.Bytes.{put}
 use Rattle.token_set.specs.rule.Tokens.{conflicts}
-use Rattle.token_set.specs.code.Sets.{token_of}
+use Rattle.token_set.specs.rule.Tokens.{token_of}
 use Rattle.token_set.proofs.ViewLaws.{within-way, below-way, above-way, found, parts-free}
 use Rattle.token_set.proofs.view.conflicts_with.Goals as goal
 

@@ -1,7 +1,7 @@
 use Rattle.std.proofs.Common.{◌≡◌, List, sym, ap, ◌∙◌, subst}
 use Rattle.messages.specs.declared.entry.Entry.{Entry}
 use Rattle.cluster_core.specs.rule.Journals.{RunFields}
-use Rattle.book.specs.code.Receipts.{IsStampOf, Holds}
+use Rattle.book.specs.rule.Receipts.{IsStampOf, Holds}
 use Rattle.book.proofs.Held.{held_by_stamps, says_yes}
 use Rattle.book.proofs.book.Book.confirm.Goals as goal
 

@@ -9,7 +9,7 @@ use Rattle.cluster_core.proofs.steps.CertainRefusals.{err_is, declare-unspent}
 use Rattle.messages.specs.rule.Messages.{sending}
 use Rattle.cluster_core.specs.rule.Journals.{RunFields}
 use Rattle.book.specs.rule.Fields.{StampFields}
-use Rattle.book.specs.code.Turns.{Declared}
+use Rattle.book.specs.rule.Turns.{Declared}
 use Rattle.book.proofs.Committed.{declared, turned_reached}
 use Rattle.book.proofs.book.Book.declare.Goals as goal
 

@@ -9,7 +9,7 @@ use Rattle.cluster_core.proofs.steps.CertainRefusals.{err_is, fail-unspent}
 use Rattle.messages.specs.rule.Messages.{sending}
 use Rattle.cluster_core.specs.rule.Journals.{RunFields}
 use Rattle.book.specs.rule.Fields.{StampFields}
-use Rattle.book.specs.code.Turns.{Failed}
+use Rattle.book.specs.rule.Turns.{Failed}
 use Rattle.book.proofs.Committed.{failed, turned_reached}
 use Rattle.book.proofs.book.Book.fail_server.Goals as goal
 

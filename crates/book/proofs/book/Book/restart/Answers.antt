@@ -9,7 +9,7 @@ use Rattle.cluster_core.specs.rule.Journals.{RunFields}
 use Rattle.cluster_core.proofs.steps.Steps.{kept_taken}
 use Rattle.book.specs.declared.state.State.TheVariants.{OfNode}
 use Rattle.book.specs.rule.Fields.{SeatFields}
-use Rattle.book.specs.code.Turns.{Restarted}
+use Rattle.book.specs.rule.Turns.{Restarted}
 use Rattle.book.proofs.Turns.{restarted_mine}
 use Rattle.book.proofs.Committed.{restarted, turned_reached}
 use Rattle.book.proofs.book.Book.restart.Goals as goal

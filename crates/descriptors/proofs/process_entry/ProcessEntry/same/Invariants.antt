@@ -1,5 +1,5 @@
 use Rattle.std.proofs.Common.{◌≡◌, ◌<◌, ℕ}
-use Rattle.descriptors.specs.code.Rows.{slot}
+use Rattle.descriptors.specs.rule.Rows.{slot}
 use Rattle.descriptors.proofs.process_entry.ProcessEntry.same.Given as goal
 
 abbrev pub invariant-loop-fd : goal.invariant-loop-fd

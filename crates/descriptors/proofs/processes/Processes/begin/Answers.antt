@@ -1,7 +1,7 @@
 use Rattle.std.proofs.Common.{◌≡◌, None, true, ap, arith, sym, subst, ◌∙◌, take, drop, ◌++◌, length, rules}
 use Rattle.std.proofs.Math.Seq.{take-append_seam}
 use Rattle.model.specs.rule.Descriptors.{with_process}
-use Rattle.descriptors.specs.code.Rows.{processes}
+use Rattle.descriptors.specs.rule.Rows.{processes}
 use Rattle.descriptors.specs.code.Counts.{AreCounts, places}
 use Rattle.descriptors.proofs.RowLaws.{idle-opened}
 use Rattle.descriptors.proofs.CountLaws.{counts-begun}

@@ -1,7 +1,7 @@
 use Rattle.std.proofs.Common.{◌≡◌, ◌+◌, ℕ, None, false, ap, arith, sym, subst, ◌∙◌, take, drop, ◌++◌, length, rules}
 use Rattle.std.proofs.Math.Seq.{take-append_seam}
 use Rattle.model.specs.rule.Descriptors.{with_process}
-use Rattle.descriptors.specs.code.Rows.{processes}
+use Rattle.descriptors.specs.rule.Rows.{processes}
 use Rattle.descriptors.specs.code.Counts.{AreCounts, count_of, references_below, places}
 use Rattle.descriptors.proofs.RowLaws.{number-or-none, processes-past}
 use Rattle.descriptors.proofs.CountLaws.{counts-ended}

@@ -1,7 +1,7 @@
 use Rattle.std.proofs.Common.{◌≡◌, ◌∙◌, ap, sym, arith}
 use Rattle.model.specs.rule.Descriptors.{is_of_file}
 use Rattle.model.proofs.SearchLaws.{failed-start, failed-more, some_passes-found, some_passes-none}
-use Rattle.descriptors.specs.code.Rows.{processes}
+use Rattle.descriptors.specs.rule.Rows.{processes}
 use Rattle.descriptors.proofs.processes.Processes.has_open.Goals as goal
 
 pub loop-fd-init : goal.loop-fd-init

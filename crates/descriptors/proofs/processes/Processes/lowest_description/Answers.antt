@@ -1,6 +1,6 @@
 use Rattle.std.proofs.Common.{ap, ◌∙◌}
 use Rattle.model.specs.rule.Descriptors.{lowest_description}
-use Rattle.descriptors.specs.code.Rows.{processes}
+use Rattle.descriptors.specs.rule.Rows.{processes}
 use Rattle.descriptors.proofs.CountLaws.{lowest-unused}
 use Rattle.descriptors.proofs.processes.Processes.lowest_description.Goals as goal
 

@@ -1,5 +1,5 @@
 use Rattle.std.specs.Prelude.{is_none}
-use Rattle.descriptors.specs.code.Rows.{processes}
+use Rattle.descriptors.specs.rule.Rows.{processes}
 use Rattle.model.proofs.SearchLaws.{Failed}
 use Rattle.descriptors.proofs.processes.Processes.lowest_fd.Given as goal
 

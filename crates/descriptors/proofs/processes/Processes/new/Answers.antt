@@ -1,5 +1,5 @@
 use Rattle.std.proofs.Common.{[], rules, refl}
-use Rattle.descriptors.specs.code.Rows.{processes}
+use Rattle.descriptors.specs.rule.Rows.{processes}
 use Rattle.descriptors.proofs.RowLaws.{processes-opened}
 use Rattle.descriptors.proofs.CountLaws.{counts-none}
 use Rattle.descriptors.proofs.processes.Processes.new.Goals as goal

@@ -1,6 +1,6 @@
 use Rattle.std.proofs.Common.{◌<◌, ℕ, sym, ap, subst, ◌∙◌, inl}
 use Rattle.model.proofs.DescriptorLaws.{lowest_fd-free}
-use Rattle.descriptors.specs.code.Rows.{processes}
+use Rattle.descriptors.specs.rule.Rows.{processes}
 use Rattle.descriptors.proofs.RowLaws.{runs-numbered, resolved-runs, resolved-opened}
 use Rattle.descriptors.proofs.CountLaws.{descriptor-open}
 use Rattle.descriptors.proofs.processes.Processes.plan_dup.Goals as goal

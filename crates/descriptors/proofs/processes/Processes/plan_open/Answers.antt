@@ -2,7 +2,7 @@ use Rattle.std.proofs.Common.{◌≡◌, ℕ, ◌<◌, true, sym, ap, ◌∙◌,
 use Rattle.model.specs.rule.Limits.{IsNumber, most_descriptions}
 use Rattle.model.specs.rule.Descriptors.{lowest_fd}
 use Rattle.model.proofs.DescriptorLaws.{lowest_description-number, lowest_fd-free}
-use Rattle.descriptors.specs.code.Rows.{processes}
+use Rattle.descriptors.specs.rule.Rows.{processes}
 use Rattle.descriptors.proofs.RowLaws.{runs-numbered}
 use Rattle.descriptors.proofs.processes.Processes.plan_open.Goals as goal
 

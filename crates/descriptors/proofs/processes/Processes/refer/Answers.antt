@@ -2,7 +2,7 @@ use Rattle.std.proofs.Common.{◌≡◌, ◌+◌, Some, ap, arith, sym, subst, �
 use Rattle.std.proofs.Math.Seq.{take-append_seam}
 use Rattle.std.proofs.lemmas.List.{length-set}
 use Rattle.model.specs.rule.Descriptors.{with_descriptor}
-use Rattle.descriptors.specs.code.Rows.{processes}
+use Rattle.descriptors.specs.rule.Rows.{processes}
 use Rattle.descriptors.specs.code.Counts.{AreCounts, count_of, places}
 use Rattle.descriptors.specs.code.Edits.{IsKnown}
 use Rattle.descriptors.proofs.RowLaws.{runs_within, runs-numbered, processes-runs}

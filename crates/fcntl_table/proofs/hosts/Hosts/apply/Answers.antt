@@ -1,4 +1,4 @@
-use Rattle.descriptors.specs.code.Rows.{processes}
+use Rattle.descriptors.specs.rule.Rows.{processes}
 use Rattle.fcntl_table.proofs.HostLaws.{made_on, changes-written, hosts-written}
 use Rattle.fcntl_table.proofs.hosts.Hosts.apply.Goals as goal
 

@@ -1,7 +1,8 @@
 use Rattle.std.proofs.Common.{◌≡◌, ℕ, max, ◌+◌, List, ◌∷◌, Some, ap, subst, ◌∙◌, arith}
 use Rattle.intervals.specs.declared.byte_run.ByteRun.{ByteRun}
 use Rattle.intervals.specs.rule.Bytes.{greatest, put}
-use Rattle.intervals.specs.code.Runs.{value_at, AreRuns, EndsBelow, EndsFrom}
+use Rattle.intervals.specs.code.Runs.{AreRuns, EndsBelow, EndsFrom}
+use Rattle.intervals.specs.rule.Runs.{value_at}
 use Rattle.intervals.proofs.Runs.{ends_below_le}
 use Rattle.intervals.proofs.Written.{ends_below-both}
 use Rattle.intervals.proofs.Pieces.{none_left, moved-runs, moved-inside, moved-under}

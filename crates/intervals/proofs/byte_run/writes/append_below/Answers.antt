@@ -2,7 +2,8 @@ use Rattle.std.proofs.Common.{◌≡◌, ℕ, ◌-◌, ◌+◌, ◌++◌, List, 
 use Rattle.std.proofs.lemmas.List.{length-append}
 use Rattle.intervals.specs.declared.byte_run.ByteRun.{ByteRun}
 use Rattle.intervals.specs.rule.Bytes.{put}
-use Rattle.intervals.specs.code.Runs.{value_at, AreRuns, EndsFrom}
+use Rattle.intervals.specs.code.Runs.{AreRuns, EndsFrom}
+use Rattle.intervals.specs.rule.Runs.{value_at}
 use Rattle.intervals.proofs.Split.{ends-before}
 use Rattle.intervals.proofs.Pieces.{cut_below, none_cut}
 use Rattle.intervals.proofs.byte_run.writes.append_below.Goals as goal

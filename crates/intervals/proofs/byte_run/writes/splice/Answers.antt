@@ -1,6 +1,7 @@
 use Rattle.std.proofs.Common.{◌≡◌, ◌+◌, ◌++◌, ℕ, ap, sym, ◌∙◌, arith}
 use Rattle.intervals.specs.rule.Bytes.{Range, greatest, put}
-use Rattle.intervals.specs.code.Runs.{value_at, EndsBelow}
+use Rattle.intervals.specs.code.Runs.{EndsBelow}
+use Rattle.intervals.specs.rule.Runs.{value_at}
 use Rattle.intervals.proofs.Runs.{ends_below_le, put_none}
 use Rattle.intervals.proofs.Split.{at-back}
 use Rattle.intervals.proofs.StartsWith.{put-in, put-below}

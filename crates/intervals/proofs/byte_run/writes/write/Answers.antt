@@ -2,7 +2,8 @@ use Rattle.std.proofs.Common.{◌≡◌, ◌+◌, ◌++◌, ℕ, take, length, s
 use Rattle.std.proofs.Math.Seq.{take-append_seam}
 use Rattle.std.proofs.lemmas.List.{length-append}
 use Rattle.intervals.specs.rule.Bytes.{greatest, put}
-use Rattle.intervals.specs.code.Runs.{value_at, AreRuns, EndsBelow}
+use Rattle.intervals.specs.code.Runs.{AreRuns, EndsBelow}
+use Rattle.intervals.specs.rule.Runs.{value_at}
 use Rattle.intervals.proofs.Written.{ends_below-both, ends_below-front, ends_below-rest, runs-written, at-written}
 use Rattle.intervals.proofs.StartsWith.{put-pieces}
 use Rattle.intervals.proofs.byte_run.writes.write.Goals as goal

@@ -2,7 +2,8 @@ use Rattle.std.proofs.Common.{◌≡◌, ◌≤◌, ◌+◌, ◌-◌, ◌++◌, 
 use Rattle.std.proofs.lemmas.List.{append_assoc, append-nil, length-append, take_all}
 use Rattle.intervals.specs.declared.byte_run.ByteRun.{ByteRun}
 use Rattle.intervals.specs.rule.Bytes.{greatest, starts_below}
-use Rattle.intervals.specs.code.Runs.{value_at, AreRuns}
+use Rattle.intervals.specs.code.Runs.{AreRuns}
+use Rattle.intervals.specs.rule.Runs.{value_at}
 use Rattle.intervals.specs.code.Entries.{BeginAbove}
 use Rattle.intervals.specs.code.Parts.{all_runs, AreSome, row_runs, part_at, runs_above}
 use Rattle.intervals.proofs.Runs.{drop_read}

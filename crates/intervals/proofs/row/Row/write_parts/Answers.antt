@@ -1,6 +1,6 @@
 use Rattle.std.proofs.Common.{◌+◌, length, ap, ◌∙◌, arith}
 use Rattle.intervals.specs.rule.Bytes.{greatest}
-use Rattle.intervals.specs.code.Runs.{value_at}
+use Rattle.intervals.specs.rule.Runs.{value_at}
 use Rattle.intervals.specs.code.Parts.{part_at, runs_above}
 use Rattle.intervals.proofs.Split.{runs-front}
 use Rattle.intervals.proofs.Places.{length_near, runs_near, ends_near, bytes_within, placed_both}

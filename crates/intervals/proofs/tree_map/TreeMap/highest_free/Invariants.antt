@@ -1,6 +1,6 @@
 use Rattle.std.proofs.Common.{ℕ, ◌<◌, ◌+◌, ◌-◌}
 use Rattle.intervals.specs.rule.Bytes.{IsBarred, greatest}
-use Rattle.intervals.specs.code.Runs.{value_at}
+use Rattle.intervals.specs.rule.Runs.{value_at}
 use Rattle.intervals.proofs.tree_map.TreeMap.highest_free.Given as goal
 
 -- no byte above `to` and below `start` is barred

@@ -1,6 +1,6 @@
 use Rattle.std.proofs.Common.{ℕ, ◌≤◌, ◌<◌}
 use Rattle.intervals.specs.rule.Bytes.{IsBarred}
-use Rattle.intervals.specs.code.Runs.{value_at}
+use Rattle.intervals.specs.rule.Runs.{value_at}
 use Rattle.intervals.proofs.tree_map.TreeMap.lowest_free.Given as goal
 
 -- no byte from `end` on and below `from` is barred

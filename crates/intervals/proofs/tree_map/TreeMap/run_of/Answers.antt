@@ -1,5 +1,5 @@
 use Rattle.std.proofs.Common.{◌++◌, drop, refl, ap, subst, arith}
-use Rattle.intervals.specs.code.Runs.{value_at}
+use Rattle.intervals.specs.rule.Runs.{value_at}
 use Rattle.intervals.specs.code.Entries.{IsNext}
 use Rattle.intervals.specs.code.Parts.{all_runs, row_runs, part_at, runs_above}
 use Rattle.intervals.proofs.Split.{runs-front}

@@ -1,6 +1,7 @@
 use Rattle.std.proofs.Common.{◌≡◌, ◌+◌, ◌≤◌, le-leb, length, ap, sym, arith}
 use Rattle.intervals.specs.rule.Bytes.{Range, greatest, number_of_runs, put}
-use Rattle.intervals.specs.code.Runs.{value_at, AreRuns, EndsBelow}
+use Rattle.intervals.specs.code.Runs.{AreRuns, EndsBelow}
+use Rattle.intervals.specs.rule.Runs.{value_at}
 use Rattle.intervals.proofs.StartsWith.{number-few}
 use Rattle.intervals.proofs.Rows.{few_runs}
 use Rattle.intervals.proofs.tree_map.TreeMap.stays_within.Goals as goal

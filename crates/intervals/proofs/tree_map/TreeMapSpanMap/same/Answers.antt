@@ -1,5 +1,5 @@
 use Rattle.std.proofs.Common.{ap}
-use Rattle.intervals.specs.code.Runs.{value_at}
+use Rattle.intervals.specs.rule.Runs.{value_at}
 use Rattle.intervals.proofs.Same.{same_runs}
 use Rattle.intervals.proofs.tree_map.TreeMapSpanMap.same.Goals as goal
 

@@ -1,6 +1,7 @@
 use Rattle.std.proofs.Common.{◌≡◌, ℕ, ◌+◌, ◌≤◌, length, ap, subst, if◌then◌else◌, ◌∙◌, arith}
 use Rattle.intervals.specs.rule.Bytes.{Range, greatest, begins_after, starts_below}
-use Rattle.intervals.specs.code.Runs.{value_at, AreRuns, EndsBelow}
+use Rattle.intervals.specs.code.Runs.{AreRuns, EndsBelow}
+use Rattle.intervals.specs.rule.Runs.{value_at}
 use Rattle.intervals.proofs.StartsWith.{before, before-is, number-written}
 use Rattle.intervals.proofs.vec_map.VecMap.starts_with.Goals as goal
 

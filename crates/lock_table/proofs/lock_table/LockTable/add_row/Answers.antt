@@ -1,7 +1,8 @@
 use Rattle.std.proofs.Common.{inl, inr, arith}
 use Rattle.std.proofs.lemmas.Bool.{both_ways}
-use Rattle.intervals.specs.code.Runs.{value_at}
-use Rattle.lock_table.specs.code.Rows.{all_rows, HoldsSome}
+use Rattle.intervals.specs.rule.Runs.{value_at}
+use Rattle.lock_table.specs.code.Rows.{HoldsSome}
+use Rattle.lock_table.specs.rule.Tables.{all_rows}
 use Rattle.lock_table.specs.code.Blocks.{rows_before, IsGapIn, HasRoom}
 use Rattle.lock_table.proofs.Writes.{row_unwanted, row_added}
 use Rattle.lock_table.proofs.SameRows.{blocks_are}

@@ -1,7 +1,7 @@
 use Rattle.std.proofs.Common.{List}
 use Rattle.std.specs.List.{filter}
 use Rattle.lock_table.specs.declared.owner_locks.OwnerLocks.{OwnerLocks}
-use Rattle.lock_table.specs.code.Rows.{all_rows, rows_held}
+use Rattle.lock_table.specs.rule.Tables.{all_rows, rows_held}
 use Rattle.lock_table.proofs.RowLemmas.{is_of_other, held-filter, rows-filter}
 use Rattle.lock_table.proofs.PageLemmas.{covers-without_anywhere}
 use Rattle.lock_table.proofs.SameRows.{blocks_are}

@@ -2,9 +2,10 @@ use Rattle.std.proofs.Common.{◌≡◌, [], get_or, length, take, List, refl, s
 use Rattle.std.proofs.lemmas.List.{get_or_default, take_all}
 use Rattle.model.specs.rule.Locks.{FileLocks, IsRegion, IsClear}
 use Rattle.lock_table.specs.declared.owner_locks.OwnerLocks.{OwnerLocks}
-use Rattle.lock_table.specs.code.Rows.{all_rows, rows_held}
+use Rattle.lock_table.specs.rule.Tables.{all_rows, rows_held}
 use Rattle.intervals.specs.rule.Bytes.{IsLargest}
-use Rattle.lock_table.specs.code.Blockers.{AreNear, HasInWay}
+use Rattle.lock_table.specs.code.Blockers.{AreNear}
+use Rattle.lock_table.specs.rule.Listing.{HasInWay}
 use Rattle.lock_table.proofs.BlockRows.{rows_of_block}
 use Rattle.lock_table.proofs.BlockJoins.{block_step, among_blocks}
 use Rattle.lock_table.proofs.PageLemmas.{near_from}

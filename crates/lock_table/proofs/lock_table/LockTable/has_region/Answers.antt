@@ -3,7 +3,7 @@ use Rattle.std.specs.Prelude.{◌↔◌, IsTrue}
 use Rattle.std.proofs.lemmas.Bool.{false≢true}
 use Rattle.intervals.specs.rule.Bytes.{IsRun}
 use Rattle.model.specs.declared.mode.Mode.{Mode}
-use Rattle.lock_table.specs.code.Rows.{all_rows}
+use Rattle.lock_table.specs.rule.Tables.{all_rows}
 use Rattle.lock_table.specs.code.Blocks.{rows_before, IsRowIn, IsGapIn}
 use Rattle.lock_table.proofs.RowLemmas.{held-gap, held-at, place_below}
 use Rattle.lock_table.proofs.BlockRows.{row_whole, row_read}

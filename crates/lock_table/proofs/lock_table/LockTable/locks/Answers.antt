@@ -3,8 +3,9 @@ use Rattle.std.specs.Ordering.{is_lt}
 use Rattle.std.proofs.lemmas.List.{get_or_default, take_all}
 use Rattle.std.proofs.lemmas.Fn.{always_returns_same}
 use Rattle.model.specs.declared.lock_info.LockInfo.{LockInfo}
-use Rattle.lock_table.specs.code.Rows.{rows_held}
-use Rattle.lock_table.specs.code.Listing.{lock_cmp, ListsRegions}
+use Rattle.lock_table.specs.rule.Tables.{rows_held}
+use Rattle.lock_table.specs.code.Listing.{lock_cmp}
+use Rattle.lock_table.specs.rule.Listing.{ListsRegions}
 use Rattle.lock_table.proofs.BlockRows.{rows_of_block}
 use Rattle.lock_table.proofs.BlockJoins.{block_step}
 use Rattle.lock_table.proofs.ListingLemmas.{lists_none, lists_join, listing_from, locks_weak}

@@ -1,5 +1,5 @@
 use Rattle.std.proofs.Common.{take}
-use Rattle.lock_table.specs.code.Rows.{all_rows, rows_held}
+use Rattle.lock_table.specs.rule.Tables.{all_rows, rows_held}
 use Rattle.lock_table.specs.code.Blockers.{IsLowestBut}
 use Rattle.lock_table.proofs.lock_table.LockTable.lowest_but.Given as goal
 

@@ -1,5 +1,5 @@
 use Rattle.std.proofs.Common.{◌≡◌, ◌<◌, [], get_or, length, sym}
-use Rattle.lock_table.specs.code.Rows.{all_rows}
+use Rattle.lock_table.specs.rule.Tables.{all_rows}
 use Rattle.lock_table.specs.code.Blocks.{rows_before, IsRowIn, IsGapIn}
 use Rattle.lock_table.proofs.RowLemmas.{held-at, held-gap, place_below}
 use Rattle.lock_table.proofs.BlockRows.{row_whole, row_read}

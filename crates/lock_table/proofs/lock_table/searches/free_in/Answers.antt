@@ -4,8 +4,9 @@ use Rattle.std.proofs.lemmas.Bool.{both_ways}
 use Rattle.intervals.specs.rule.Bytes.{IsLargest}
 use Rattle.model.specs.rule.Locks.{FileLocks, IsRegion, IsClear}
 use Rattle.lock_table.specs.declared.owner_locks.OwnerLocks.{OwnerLocks}
-use Rattle.lock_table.specs.code.Rows.{rows_held}
-use Rattle.lock_table.specs.code.Blockers.{AreNear, HasInWay}
+use Rattle.lock_table.specs.rule.Tables.{rows_held}
+use Rattle.lock_table.specs.code.Blockers.{AreNear}
+use Rattle.lock_table.specs.rule.Listing.{HasInWay}
 use Rattle.lock_table.proofs.BlockerLemmas.{rows_step}
 use Rattle.lock_table.proofs.RowLemmas.{row_holds}
 use Rattle.lock_table.proofs.NearRows.{around_to}

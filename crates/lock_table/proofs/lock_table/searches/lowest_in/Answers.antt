@@ -2,7 +2,7 @@ use Rattle.std.proofs.Common.{◌≡◌, ◌+◌, ◌<◌, ◌≤◌, List, leng
 use Rattle.std.proofs.lemmas.List.{take_all}
 use Rattle.model.specs.rule.Locks.{FileLocks}
 use Rattle.lock_table.specs.declared.owner_locks.OwnerLocks.{OwnerLocks}
-use Rattle.lock_table.specs.code.Rows.{rows_held}
+use Rattle.lock_table.specs.rule.Tables.{rows_held}
 use Rattle.lock_table.specs.code.Blockers.{AreNear, IsLowestBut}
 use Rattle.lock_table.proofs.BlockerLemmas.{lowest_none, lowest_join, lowest_past, row_passed, rows_step}
 use Rattle.lock_table.proofs.NearRows.{lowest_to}

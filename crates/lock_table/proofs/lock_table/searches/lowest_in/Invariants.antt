@@ -1,5 +1,5 @@
 use Rattle.std.proofs.Common.{◌-◌, ◌≤◌, length, take}
-use Rattle.lock_table.specs.code.Rows.{rows_held}
+use Rattle.lock_table.specs.rule.Tables.{rows_held}
 use Rattle.lock_table.specs.code.Blockers.{IsLowestBut}
 use Rattle.lock_table.proofs.lock_table.searches.lowest_in.Given as goal
 

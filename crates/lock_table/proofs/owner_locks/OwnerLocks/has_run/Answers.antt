@@ -1,5 +1,5 @@
 use Rattle.std.proofs.Common.{refl}
-use Rattle.intervals.specs.code.Runs.{value_at}
+use Rattle.intervals.specs.rule.Runs.{value_at}
 use Rattle.model.proofs.ReplayLaws.{found_where_region}
 use Rattle.lock_table.proofs.owner_locks.OwnerLocks.has_run.Goals as goal
 

@@ -3,7 +3,7 @@ use Rattle.model.specs.declared.host.Host.{Host}
 use Rattle.node_core.specs.rule.State.{host}
 use Rattle.node_core.specs.rule.Parts.{NodeParts, node_state}
 use Rattle.node_core.specs.declared.node_edit.NodeEdit.{NodeEdit}
-use Rattle.node_core.specs.code.Anchors.{IsAnchored}
+use Rattle.node_core.specs.rule.Anchors.{IsAnchored}
 use Rattle.node_core.specs.code.Plans.{files_told, made, RowsFit, EditFits, Fits}
 use Rattle.node_core.proofs.PlanLaws.{Leaves, node-planned, node-edited}
 use Rattle.node_core.proofs.node.Node.apply_edit.Goals as goal

@@ -2,7 +2,8 @@ use Rattle.std.specs.Prelude.{◌≡◌, ◌+◌, Ok, Err, IfOk}
 use Rattle.std.proofs.Common.{ap, sym, subst, ◌∙◌}
 use Rattle.model.specs.declared.reply.Reply.{Reply}
 use Rattle.model.specs.rule.Limits.{IsNumber}
-use Rattle.descriptors.specs.code.Rows.{processes, resolved}
+use Rattle.descriptors.specs.code.Rows.{resolved}
+use Rattle.descriptors.specs.rule.Rows.{processes}
 use Rattle.node_core.specs.rule.State.{Effect}
 use Rattle.node_core.specs.rule.Try.{settled, with_freed}
 use Rattle.node_core.specs.rule.Parts.{NodeParts, node_state}

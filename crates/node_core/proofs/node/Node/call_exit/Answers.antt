@@ -1,7 +1,7 @@
 use Rattle.std.specs.Prelude.{◌≡◌, IfOk}
 use Rattle.std.proofs.Common.{ap, sym, subst, ◌∙◌}
 use Rattle.model.specs.rule.Descriptors.{has_open}
-use Rattle.descriptors.specs.code.Rows.{processes}
+use Rattle.descriptors.specs.rule.Rows.{processes}
 use Rattle.node_core.specs.rule.State.{Effect}
 use Rattle.node_core.specs.rule.Try.{with_freed_of}
 use Rattle.node_core.specs.rule.Parts.{NodeParts, node_state}

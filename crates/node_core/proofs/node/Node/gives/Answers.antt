@@ -1,6 +1,6 @@
 use Rattle.std.proofs.Common.{◌≡◌, ℕ, subst}
 use Rattle.model.specs.rule.Locks.{IsRegion}
-use Rattle.lock_table.specs.code.Rows.{held}
+use Rattle.lock_table.specs.rule.Tables.{held}
 use Rattle.token_set.specs.rule.Releases.{IsRevocable, IsGivenUp}
 use Rattle.messages.specs.rule.Wants.{Wants}
 use Rattle.node_core.proofs.NodeLaws.{node-gives}

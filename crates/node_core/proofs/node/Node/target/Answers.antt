@@ -4,7 +4,8 @@ use Rattle.std.proofs.lemmas.Int.{to_z-of_z}
 use mir.Val.{to_z, of_z}
 use Rattle.intervals.specs.rule.Segment.{seg}
 use Rattle.model.specs.rule.Table.{target_at}
-use Rattle.descriptors.specs.code.Rows.{processes, resolved}
+use Rattle.descriptors.specs.code.Rows.{resolved}
+use Rattle.descriptors.specs.rule.Rows.{processes}
 use Rattle.node_core.specs.rule.Parts.{NodeParts}
 use Rattle.node_core.proofs.NodeLaws.{target-refused, target-found, target-file}
 use Rattle.fcntl_table.proofs.TargetLaws.{segment-is}

@@ -2,7 +2,7 @@ use Rattle.std.specs.Prelude.{◌≡◌, ℕ, ◌<◌, ◌+◌, Bool, List, All}
 use Rattle.std.proofs.Common.{arith, ap, sym, subst, ◌∙◌}
 use Rattle.std.proofs.lemmas.List.Elements.{All-nil}
 use Rattle.model.specs.rule.Descriptors.{has_open}
-use Rattle.descriptors.specs.code.Rows.{processes}
+use Rattle.descriptors.specs.rule.Rows.{processes}
 use Rattle.node_core.specs.rule.Try.{with_freed, with_freed_of}
 use Rattle.node_core.specs.rule.Parts.{node_state}
 use Rattle.node_core.specs.declared.node_edit.NodeEdit.{NodeEdit}

@@ -1,6 +1,6 @@
 use Rattle.std.specs.Prelude.{◌≡◌, ◌<◌, ◌+◌, All}
 use Rattle.model.specs.rule.Descriptors.{has_open}
-use Rattle.descriptors.specs.code.Rows.{processes}
+use Rattle.descriptors.specs.rule.Rows.{processes}
 use Rattle.node_core.specs.rule.Try.{with_freed_of}
 use Rattle.node_core.specs.code.Plans.{effect_of, PartsFit}
 use Rattle.node_core.proofs.node.Node.tell_open.Given as goal

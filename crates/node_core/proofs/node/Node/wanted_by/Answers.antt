@@ -1,7 +1,7 @@
 use Rattle.std.proofs.Common.{◌≡◌, ◌≤◌, ◌∙◌, ap, sym, subst}
 use Rattle.intervals.specs.rule.Bytes.{Range}
 use Rattle.messages.specs.rule.Wants.{Wants}
-use Rattle.token_set.specs.code.Sets.{token_of}
+use Rattle.token_set.specs.rule.Tokens.{token_of}
 use Rattle.token_set.specs.rule.Tokens.{desired}
 use Rattle.node_core.specs.rule.Parts.{NodeParts, node_state}
 use Rattle.node_core.proofs.NodeLaws.{desired-ends}

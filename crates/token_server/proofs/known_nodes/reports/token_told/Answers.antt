@@ -4,7 +4,7 @@ use Rattle.std.proofs.lemmas.List.{take_more, take-append-drop}
 use Rattle.std.proofs.lemmas.List.Elements.{All-push}
 use Rattle.intervals.specs.rule.Bytes.{Range}
 use Rattle.token_set.specs.rule.Tokens.{raised}
-use Rattle.token_set.specs.code.Sets.{token_of}
+use Rattle.token_set.specs.rule.Tokens.{token_of}
 use Rattle.messages.specs.declared.token_run.TokenRun.{TokenRun}
 use Rattle.messages.specs.rule.TokenRuns.{are_longest}
 use Rattle.messages.specs.rule.Reports.{reported}

@@ -1,5 +1,5 @@
 use Rattle.std.specs.Prelude.{◌≡◌, All, take}
-use Rattle.token_set.specs.code.Sets.{token_of}
+use Rattle.token_set.specs.rule.Tokens.{token_of}
 use Rattle.messages.specs.rule.Reports.{reported}
 use Rattle.token_server.proofs.ReportLaws.{HasByte}
 use Rattle.token_server.proofs.known_nodes.reports.token_told.Given as goal

@@ -6,7 +6,7 @@ use Rattle.token_server.specs.declared.token_queue.token_request.TokenRequest.{T
 use Rattle.token_server.specs.rule.Actives.{waiting_for}
 use Rattle.token_server.specs.rule.Rows.{Row}
 use Rattle.token_server.specs.declared.known_nodes.known_change.Changed.{Changed}
-use Rattle.token_server.specs.code.Obstacles.{obstacle}
+use Rattle.token_server.specs.rule.Obstacles.{obstacle}
 use Rattle.token_server.specs.rule.RowParts.{rows_of}
 use Rattle.token_server.specs.rule.Parts.{ServerParts, server_state}
 use Rattle.token_server.specs.code.Marks.{NoneExclusive}

@@ -1,6 +1,6 @@
 use Rattle.std.specs.Prelude.{◌≡◌, ◌≤◌}
 use Rattle.std.proofs.Common.{take}
-use Rattle.token_server.specs.code.Obstacles.{obstacle}
+use Rattle.token_server.specs.rule.Obstacles.{obstacle}
 use Rattle.token_server.specs.code.Edits.{reached}
 use Rattle.token_server.proofs.AwaitLaws.{Await}
 use Rattle.token_server.proofs.server.Server.awaited.Given as goal

@@ -5,7 +5,7 @@ use Rattle.token_server.specs.declared.token_queue.active_request.ActiveRequest.
 use Rattle.token_server.specs.rule.Actives.{requests_of}
 use Rattle.token_server.specs.declared.change.ServerEdit.{ServerEdit}
 use Rattle.token_server.specs.rule.State.{ServerState}
-use Rattle.token_server.specs.code.Obstacles.{is_idle}
+use Rattle.token_server.specs.rule.Obstacles.{is_idle}
 use Rattle.token_server.specs.rule.Serve.{each_served}
 use Rattle.token_server.specs.code.Told.{with_told, commands_told}
 use Rattle.token_server.specs.code.Edits.{held_after, drafted}

@@ -8,7 +8,7 @@ use Rattle.token_server.proofs.ActiveLaws.{waiting_for-length}
 use Rattle.token_server.specs.declared.change.ServerEdit.{ServerEdit}
 use Rattle.token_server.specs.declared.sent_command.SentCommand.{SentCommand}
 use Rattle.token_server.specs.rule.State.{ServerState}
-use Rattle.token_server.specs.code.Obstacles.{is_idle}
+use Rattle.token_server.specs.rule.Obstacles.{is_idle}
 use Rattle.token_server.specs.code.Told.{told_to}
 use Rattle.token_server.specs.rule.Parts.{ServerParts, server_state}
 use Rattle.token_server.specs.code.Edits.{keeps, held_after, drafted}

@@ -10,7 +10,7 @@ use Rattle.token_server.specs.rule.RowParts.{rows_of, deaths_of}
 use Rattle.token_server.specs.rule.Parts.{ServerParts, server_state}
 use Rattle.token_server.specs.rule.State.{awaits}
 use Rattle.token_server.specs.code.Admitting.{IsAdmitted}
-use Rattle.token_server.specs.code.Obstacles.{obstacle}
+use Rattle.token_server.specs.rule.Obstacles.{obstacle}
 use Rattle.token_server.specs.code.Ready.{AreDistinct, IsReady}
 use Rattle.token_server.specs.code.Changes.{rows_after, deaths_after}
 use Rattle.token_server.specs.code.RowEdits.{rows_overlaid, deaths_overlaid}

@@ -1,7 +1,7 @@
 use Rattle.std.specs.Prelude.{◌≡◌, All}
 use Rattle.std.proofs.Common.{take}
 use Rattle.token_server.specs.rule.Actives.{requests_of}
-use Rattle.token_server.specs.code.Obstacles.{obstacle}
+use Rattle.token_server.specs.rule.Obstacles.{obstacle}
 use Rattle.token_server.specs.code.Edits.{reached}
 use Rattle.token_server.proofs.server.Server.hold.Given as goal
 

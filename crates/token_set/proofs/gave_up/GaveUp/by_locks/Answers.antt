@@ -1,7 +1,7 @@
 use Rattle.std.proofs.Common.{Option, arith}
 use Rattle.std.specs.Prelude.{None}
 use Rattle.model.specs.declared.owner.Owner.{Owner}
-use Rattle.lock_table.specs.code.Rows.{held}
+use Rattle.lock_table.specs.rule.Tables.{held}
 use Rattle.lock_table.proofs.BlockerLemmas.{clear_way}
 use Rattle.token_set.proofs.gave_up.GaveUp.by_locks.Goals as goal
 

@@ -1,6 +1,6 @@
 use Rattle.std.proofs.Common.{◌+◌, ◌-◌, ◌≤◌}
 use Rattle.intervals.specs.rule.Bytes.{greatest}
-use Rattle.token_set.specs.code.Sets.{token_of}
+use Rattle.token_set.specs.rule.Tokens.{token_of}
 use Rattle.token_set.proofs.RunLaws.{Listed}
 use Rattle.token_set.proofs.set.TokenSet.runs.Given as goal
 

@@ -6,7 +6,7 @@ use Rattle.intervals.proofs.Around.{largest_from}
 use Rattle.lock_table.proofs.LargestLaws.{IsLargest-iff}
 use Rattle.token_set.specs.declared.view.TokenView.{TokenView}
 use Rattle.token_set.specs.rule.Tokens.{level_conflicts}
-use Rattle.token_set.specs.code.Sets.{token_of}
+use Rattle.token_set.specs.rule.Tokens.{token_of}
 use Rattle.token_set.specs.code.Views.{viewed, InWay}
 use Rattle.token_set.proofs.AroundLaws.{largest_around-is}
 use Rattle.token_set.proofs.view.TokenView.free_around.Goals as goal

@@ -1,10 +1,10 @@
 //! Merges of the logs of a small run: by clocks that allow its order, and by a clock that allows none.
-use crate::changes::Changes;
-use crate::log::Log;
-use crate::logged::{Interval, LoggedChange, LoggedEntry};
-use crate::merge::merge;
-use crate::merge_error::MergeError;
 use cluster_core::journal::run;
+use merges::changes::Changes;
+use merges::log::Log;
+use merges::logged::{Interval, LoggedChange, LoggedEntry};
+use merges::merge::merge;
+use merges::merge_error::MergeError;
 use messages::actor::Actor;
 use messages::entry::Entry;
 use messages::event::{Event, MemberEvent, NodeInput};

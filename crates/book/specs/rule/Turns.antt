@@ -10,7 +10,7 @@ use Rattle.cluster_core.specs.rule.Parts.{world_state}
 use Rattle.cluster_core.specs.rule.Journals.{RunFields, GoesOn}
 use Rattle.book.specs.rule.States.{actor_of, incarnation_of, is_declared}
 use Rattle.book.specs.rule.Fields.{SeatFields, seat_state, StampFields}
-use Rattle.book.specs.code.Receipts.{IsStampOf}
+use Rattle.book.specs.rule.Receipts.{IsStampOf}
 use Rattle.book.specs.rule.Commits.{IsSeatOf}
 
 -- the book goes on by the change of a member: fenced seats stay fenced, and stamps of the book and seats of other actors stay the book's

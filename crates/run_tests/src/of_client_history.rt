@@ -1,11 +1,11 @@
 //! Tests of what no contract says of a judged history: that an order is found where there is one, and how far the
 //! search went where there is none.
-use crate::act::Act;
-use crate::client_call::ClientCall;
-use crate::explains::explains;
-use crate::judge::judge;
-use crate::told_lock::ToldLock;
-use crate::verdict::Verdict;
+use client_history::act::Act;
+use client_history::client_call::ClientCall;
+use client_history::explains::explains;
+use client_history::judge::judge;
+use client_history::told_lock::ToldLock;
+use client_history::verdict::Verdict;
 use intervals::span::Span;
 use model::mode::Mode;
 use model::owner::{Kind, Owner};
