@@ -18,6 +18,7 @@ import sys
 import time
 
 LONGEST = 1 << 27
+LONGEST_PATH = 107  # bytes of a socket's path
 CHILD_COMES = 5  # seconds that a forked child has for its first line
 FAILS = {"node": "declare", "server": "fail-server"}
 BEGINS = {"node": "restart", "server": "start-server"}
@@ -378,7 +379,9 @@ class Cluster:
 
     async def run(self):
         """Runs the cluster until the driver is told to end, and says what was counted."""
-        stopped = asyncio.Event()
+        path, stopped = f"{self.options.folder}/socket", asyncio.Event()
+        if len(os.fsencode(path)) > LONGEST_PATH:
+            sys.exit(f"driver: the path of the socket has more than {LONGEST_PATH} bytes: {path}")
         for number in (signal.SIGTERM, signal.SIGINT):
             asyncio.get_running_loop().add_signal_handler(number, stopped.set)
         os.mkdir(self.options.folder)
@@ -390,7 +393,7 @@ class Cluster:
             if every > 0:
                 self.spawn(self.kill(kind, every))
         self.spawn(self.tick())
-        await asyncio.start_unix_server(lambda *ends: self.spawn(Caller(self, *ends).serve()), f"{self.options.folder}/socket")
+        await asyncio.start_unix_server(lambda *ends: self.spawn(Caller(self, *ends).serve()), path)
         await stopped.wait()
         for task in list(self.tasks):
             task.cancel()
