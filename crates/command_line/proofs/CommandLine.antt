@@ -1,9 +1,10 @@
 -- What clap makes of the words of a command line.
-use Rattle.std.proofs.Common.{refl, inl, inr, List, [], ◌∷◌, ◌≡◌}
+use Rattle.std.proofs.Common.{inl, inr, refl, true, List, [], ◌∷◌, ◌≡◌}
 use Rattle.clap.specs.declared.error.Error.{Error}
-use Rattle.clap.specs.Words.{HasKind, IsAmong, kind_of, Kinds, Text, fault_of, subcommand_of}
+use Rattle.clap.specs.Words.{HasKind, IsAmong, kind_of, Kinds, Text, fault_of, is_simple, is_simple_and_free, subcommand_of}
 use Rattle.clap.specs.declared.error.kind.ErrorKind.{ErrorKind}
 use Rattle.clap.specs.declared.error.kind.ErrorKind.TheVariants.{OutOfMemory, ValueValidation}
+use Rattle.clap.proofs.OnLiterals.{clap_on_literals}
 use Rattle.command_line.specs.rule.Kinds.{IsKindOf, IsOfKind}
 use Rattle.command_line.specs.rule.Program.{program_app}
 use Rattle.command_line.specs.rule.Tasks.{Task}
@@ -11,6 +12,15 @@ use Rattle.command_line.specs.rule.Words.{AsksFor, IsRefusal, IsShown}
 use Rattle.command_line.specs.declared.refusal.Refusal.{Refusal}
 use Rattle.command_line.specs.declared.refusal.Refusal.TheVariants.{Help, Wrong, NotText, NoMemory}
 use Rattle.command_line.proofs.MetTasks.{one_met}
+
+-- what clap asks of the table
+pub is_simple_program : is_simple program_app ≡ true
+unfolding clap_on_literals
+is_simple_program = refl
+
+pub is_free_program : is_simple_and_free program_app ≡ true
+unfolding clap_on_literals
+is_free_program = refl
 
 -- an error of a parse by the table
 pub fails_so : (words : List Text) (error : Error) → HasKind (fault_of program_app words) error → IsKindOf words (kind_of error)

@@ -4,9 +4,8 @@ use Rattle.std.proofs.Common.{ℕ, Bool, true, false, cond, map, refl, sym, ap, 
 use Rattle.clap.specs.Words.{Row, Text}
 use Rattle.command_line.specs.rule.JudgeTasks.{JudgeTask, rule_text}
 use Rattle.command_line.specs.rule.Met.{flag_text, judge_values_in, IsMet, IsNumber, MayBeNumber}
-use Rattle.command_line.specs.rule.Tasks.{Task, run, threads, audit, history, explain, open_calls, state, check, picture, stats, from_strace, recorded_history, explore, explore_all, schedule, judge, is_json, is_quiet, greatest_seed, most_files, most_nodes}
-use Rattle.command_line.specs.declared.listing_form.ListingForm.{ListingForm}
-use Rattle.command_line.proofs.MetValues.{Values, Several, Judged, value_at, text_at, several_at, beside_several, histories_at, rule_words, beside_histories, name_of, name_is, number_of, number_given, is_given, given_is, format_named, format_is, rule_named, rules_are, form_named, form_is, seeds_of, every_of, script_of, asked_of, task_named}
+use Rattle.command_line.specs.rule.Tasks.{Task, run, threads, audit, history, state, judge, greatest_seed}
+use Rattle.command_line.proofs.MetValues.{Values, Judged, value_at, text_at, histories_at, rule_words, beside_histories, name_of, name_is, number_of, number_given, is_given, given_is, rule_named, rules_are, asked_of, task_named}
 
 named : (p : Text × List Row) (task : Task) → IsMet (Some p) task → task_named p.0 p.1 ≡ task_named (name_of task) p.1
 named p task met = ap (λ (name : Text). task_named name p.1) (name_is p task met)
@@ -63,17 +62,14 @@ asked_is p t text values number =
 
 -- the command and its values tell the task
 pub met_is : (p : Text × List Row) (task : Task) → IsMet (Some p) task → task_named p.0 p.1 ≡ task
-met_is p (run s a j x o q k) met =
+met_is p (run s a j x q k) met =
     let script = ap (text_at 0) met.0 in
     let after = ap (value_at 1) met.0 in
     let file = ap (value_at 2) met.0 in
     let expect_flag = flag_there 3 _ _ x met.0 refl in
-    let open_flag = flag_there 4 _ _ o met.0 refl in
-    let quiet_flag = flag_there 5 _ _ (is_quiet q) met.0 refl in
-    let calm_flag = flag_there 6 _ _ k met.0 refl in
-    let json_flag = flag_there 7 _ _ (is_json q) met.0 refl in
-    let form = ◌∙◌ {A = ListingForm} (λ i. form_named (quiet_flag i) (json_flag i)) (form_is q) in
-    named p (run s a j x o q k) met ∙ (λ i. run (script i) (after i) (file i) (expect_flag i) (open_flag i) (form i) (calm_flag i))
+    let quiet_flag = flag_there 4 _ _ q met.0 refl in
+    let calm_flag = flag_there 5 _ _ k met.0 refl in
+    named p (run s a j x q k) met ∙ (λ i. run (script i) (after i) (file i) (expect_flag i) (quiet_flag i) (calm_flag i))
 met_is p (threads s n h k j) met =
     let script = ap (text_at 0) met.1 in
     let number = number_there 1 _ _ 0 greatest_seed met.0 n met.1 refl met.2 in
@@ -81,78 +77,17 @@ met_is p (threads s n h k j) met =
     let no_join = flag_there 3 _ _ k met.1 refl in
     let file = ap (value_at 4) met.1 in
     named p (threads s n h k j) met ∙ (λ i. threads (script i) (number i) (flag i) (no_join i) (file i))
-met_is p (audit j w) met =
+met_is p (audit j) met =
     let journal = ap (text_at 0) met in
-    let flag = flag_there 1 _ _ w met refl in
-    named p (audit j w) met ∙ (λ i. audit (journal i) (flag i))
+    named p (audit j) met ∙ (λ i. audit (journal i))
 met_is p (history j c) met =
     let journal = ap (text_at 0) met in
     let flag = flag_there 1 _ _ c met refl in
     named p (history j c) met ∙ (λ i. history (journal i) (flag i))
-met_is p (explain j c s) met =
-    let journal = ap (text_at 0) met in
-    let call = ap (text_at 1) met in
-    let json = flag_there 2 _ _ s met refl in
-    named p (explain j c s) met ∙ (λ i. explain (journal i) (call i) (json i))
-met_is p (open_calls j s) met =
-    let journal = ap (text_at 0) met in
-    let json = flag_there 1 _ _ s met refl in
-    named p (open_calls j s) met ∙ (λ i. open_calls (journal i) (json i))
-met_is p (state j k n f s) met =
-    let journal = ap (text_at 0) met.3 in
-    let at = given_there 1 _ _ 0 greatest_seed met.0 k met.3 refl met.4 in
-    let node = given_there 2 _ _ 1 most_nodes met.1 n met.3 refl met.5 in
-    let file = given_there 3 _ _ 1 most_files met.2 f met.3 refl met.6 in
-    let json = flag_there 4 _ _ s met.3 refl in
-    named p (state j k n f s) met ∙ (λ i. state (journal i) (at i) (node i) (file i) (json i))
-met_is p (check ss j s) met =
-    let scripts = ap (λ (v : Option Several). unwrap_or (several_at v) []) met.0 in
-    let others = ap beside_several met.0 in
-    let file = ap (value_at 0) others in
-    let json = flag_there 1 _ _ s others refl in
-    named p (check ss j s) met ∙ (λ i. check (scripts i) (file i) (json i))
-met_is p (picture j c a b f) met =
-    let journal = ap (text_at 0) met.2 in
-    let call = ap (value_at 1) met.2 in
-    let first = number_there 2 _ _ 1 greatest_seed met.0 a met.2 refl met.3 in
-    let last = number_there 3 _ _ 1 greatest_seed met.1 b met.2 refl met.4 in
-    let format = ap (λ (v : Option Values). format_named (text_at 4 v)) met.2 ∙ format_is f in
-    named p (picture j c a b f) met ∙ (λ i. picture (journal i) (call i) (first i) (last i) (format i))
-met_is p (stats j s) met =
-    let journal = ap (text_at 0) met in
-    let json = flag_there 1 _ _ s met refl in
-    named p (stats j s) met ∙ (λ i. stats (journal i) (json i))
-met_is p (from_strace r n w) met =
-    let recordings = ap (λ (v : Option Several). unwrap_or (several_at v) []) met.1 in
-    let others = ap beside_several met.1 in
-    let number = number_there 0 _ _ 1 most_nodes met.0 n others refl met.2 in
-    let places = ap (value_at 1) others in
-    let flag = flag_there 2 _ _ false others refl in
-    named p (from_strace r n w) met ∙ (λ i. cond (flag i) (recorded_history (recordings i)) (from_strace (unwrap_or (slice_get (recordings i) 0) []) (number i) (places i)))
-met_is p (recorded_history rs) met =
-    let recordings = ap (λ (v : Option Several). unwrap_or (several_at v) []) met.3 in
-    let flag = flag_there 2 _ _ true (ap beside_several met.3) refl in
-    named p (recorded_history rs) met ∙ (λ i. cond (flag i) (recorded_history (recordings i)) (script_of p.1))
-met_is p (explore s k n f o) met =
-    let script = ap (text_at 0) met.1 in
-    let count = number_there 1 _ _ 1 greatest_seed met.0.seeds k met.1 refl met.2.of_seeds in
-    let number = number_there 2 _ _ 0 greatest_seed met.0.first n met.1 refl met.2.of_first in
-    let flag = flag_there 3 _ _ f met.1 refl in
-    let json = flag_there 4 _ _ o met.1 refl in
-    let every = flag_there 5 _ _ false met.1 refl in
-    named p (explore s k n f o) met ∙ (λ i. cond (every i) (every_of p.1) (explore (script i) (count i) (number i) (flag i) (json i)))
-met_is p (explore_all s l r m) met =
-    let script = ap (text_at 0) met.1 in
-    let every = flag_there 5 _ _ true met.1 refl in
-    let losses = number_there 6 _ _ 0 greatest_seed met.0.losses l met.1 refl met.2.of_losses in
-    let repeats = number_there 7 _ _ 0 greatest_seed met.0.repeats r met.1 refl met.2.of_repeats in
-    let states = number_there 8 _ _ 1 greatest_seed met.0.states m met.1 refl met.2.of_states in
-    named p (explore_all s l r m) met ∙ (λ i. cond (every i) (explore_all (script i) (losses i) (repeats i) (states i)) (seeds_of p.1))
-met_is p (schedule s n f) met =
-    let script = ap (text_at 0) met.1 in
-    let number = number_there 1 _ _ 0 greatest_seed met.0 n met.1 refl met.2 in
-    let flag = flag_there 2 _ _ f met.1 refl in
-    named p (schedule s n f) met ∙ (λ i. schedule (script i) (number i) (flag i))
+met_is p (state j k) met =
+    let journal = ap (text_at 0) met.1 in
+    let at = given_there 1 _ _ 0 greatest_seed met.0 k met.1 refl met.2 in
+    named p (state j k) met ∙ (λ i. state (journal i) (at i))
 met_is p (judge t) met = named p (judge t) met ∙ ap judge (asked_is p t met.0 met.1 met.2)
 
 pub unmet : {A : Type 0} (values : A) → ◌≡◌ {A = Option A} None (Some values) → ⊥
@@ -160,21 +95,11 @@ unmet values is = cc
 
 -- where nothing is met, or a name that no task has, or a name without one of its values
 nothing_met : (task : Task) → IsMet None task → ⊥
-nothing_met (run s a j x o q k) is = unmet _ is.0
+nothing_met (run s a j x q k) is = unmet _ is.0
 nothing_met (threads s n h k j) is = unmet _ is.1
-nothing_met (audit j w) is = cc
+nothing_met (audit j) is = cc
 nothing_met (history j c) is = cc
-nothing_met (explain j c s) is = cc
-nothing_met (open_calls j s) is = cc
-nothing_met (state j k n f s) is = unmet _ is.3
-nothing_met (check ss j s) is = unmet _ is.0
-nothing_met (picture j c a b f) is = unmet _ is.2
-nothing_met (stats j s) is = cc
-nothing_met (from_strace r n w) is = unmet _ is.1
-nothing_met (recorded_history rs) is = unmet _ is.3
-nothing_met (explore s k n f o) is = unmet _ is.1
-nothing_met (explore_all s l r m) is = unmet _ is.1
-nothing_met (schedule s n f) is = unmet _ is.1
+nothing_met (state j k) is = unmet _ is.1
 nothing_met (judge t) is = unmet _ is.1
 
 pub one_met : (met : Option (Text × List Row)) (one other : Task) → IsMet met one → IsMet met other → one ≡ other

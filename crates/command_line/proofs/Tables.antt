@@ -11,7 +11,7 @@ use Rattle.clap.specs.declared.builder.command.Command.TheViews.{out-Command}
 use Rattle.clap.proofs.WalkLemmas.{both, first_value-rows, raw_values-rows}
 use Rattle.command_line.specs.code.Table.{app_given, rule_given}
 use Rattle.command_line.specs.declared.argument.Argument.{Argument}
-use Rattle.command_line.specs.declared.argument.Argument.TheVariants.{Word, Words, Value, Values, Default, Number, Bounded, Flag}
+use Rattle.command_line.specs.declared.argument.Argument.TheVariants.{Word, Words, Value, Values, Number, Bounded, Flag}
 use Rattle.command_line.specs.declared.subcommand.Subcommand.{Subcommand}
 
 is_not : (b : Bool) → not b ≡ true → b ≡ false
@@ -57,29 +57,12 @@ pub no_texts : (found : Found) (id : Text) (result : Option (Bor (List (Bor Text
     → option_map (λ s. map (λ v. v.now) s.now) result ≡ option_map raw_values (matched_of found id) → result ≡ None → all_of id (rows_of found) ≡ None
 no_texts found id result ensured is = sym (raw_values-rows found id) ∙ (sym ensured ∙ ap (option_map (λ (s : Bor (List (Bor Text))). map (λ (v : Bor Text). v.now) s.now)) is)
 
-pub are_none : (texts : List (Bor Text)) → (length texts == 0) ≡ true → map (λ v. v.now) texts ≡ []
-are_none [] none = refl
-are_none (text ∷ texts) none =
-    let differs = ne_eqb (length (text ∷ texts)) 0 (λ e. omega (arith, e)) in
-    absurd (cc)
-
-pub are_some : (texts : List (Bor Text)) → (length texts == 0) ≡ false → map (λ v. v.now) texts ≢ []
-are_some [] some none = cc
-are_some (text ∷ texts) some none = cc
-
--- the one text of a list
-pub only_one : (texts : List (Bor Text)) (d : Bor Text) → length texts ≡ 1 → texts ≡ get_or texts 0 d ∷ []
-only_one [] d one = absurd (omega (arith, one))
-only_one (text ∷ []) d one = refl
-only_one (text ∷ other ∷ more) d one = absurd (omega (arith, one))
-
 -- each argument of the table is a simple one
 pub is_simple : (argument : Argument) → (rule_given argument).is_simple ≡ true
 is_simple (Word id help) = refl
 is_simple (Words id help) = refl
 is_simple (Value id long help) = refl
 is_simple (Values id long help) = refl
-is_simple (Default id long default help) = refl
 is_simple (Number id long default least greatest help) = refl
 is_simple (Bounded id long least greatest help) = refl
 is_simple (Flag name help) = refl

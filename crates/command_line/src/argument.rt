@@ -8,12 +8,6 @@ use clap::builder::ValueParser;
 use clap::{Arg, ArgAction};
 use std::alloc::Global;
 
-/// The word that names a script.
-pub(crate) const SCRIPT: Argument<'static> = Argument::Word {
-    id: "SCRIPT",
-    help: "The script: a file of lines, or - for standard input",
-};
-
 /// The flag that asks for JSON in the place of words.
 pub(crate) const JSON: Argument<'static> = Argument::Flag {
     name: "json",
@@ -22,7 +16,7 @@ pub(crate) const JSON: Argument<'static> = Argument::Flag {
 
 /// An argument of a command, with what help says of it.
 pub(crate) enum Argument<'a> {
-    /// A word that must be there: a path, or the name of a call.
+    /// A word that must be there, as a path.
     Word {
         id: &'a str,
         help: &'a str,
@@ -44,14 +38,7 @@ pub(crate) enum Argument<'a> {
         long: &'a str,
         help: &'a str,
     },
-    /// An option with a value and the text of its default.
-    Default {
-        id: &'a str,
-        long: &'a str,
-        default: &'a str,
-        help: &'a str,
-    },
-    /// The same with a number from the least to the greatest as its value.
+    /// An option with a number from the least to the greatest as its value, and the text of its default.
     Number {
         id: &'a str,
         long: &'a str,
@@ -85,12 +72,6 @@ impl<'a> Argument<'a> {
             Argument::Words { id, help } => paths_argument(alloc, *id, *help),
             Argument::Value { id, long, help } => option_argument(alloc, *id, *long, *help),
             Argument::Values { id, long, help } => values_argument(alloc, *id, *long, *help),
-            Argument::Default {
-                id,
-                long,
-                default,
-                help,
-            } => option_argument(alloc, *id, *long, *help).default_value(*default),
             Argument::Number {
                 id,
                 long,

@@ -1,8 +1,6 @@
 //! What a line asks of a run.
-use crate::listing_form::ListingForm;
-
-/// `run SCRIPT [--after JOURNAL] [--journal FILE] [--expect] [--open] [--quiet | --json] [--calm]`: to run each line of the
-/// script in order, and to print the listing.
+/// `run SCRIPT [--after JOURNAL] [--journal FILE] [--expect] [--quiet] [--calm]`: to run each line of the script in order,
+/// and to print the listing.
 #[derive(Clone, Copy)]
 pub struct RunLine<'a> {
     pub script: &'a str,
@@ -12,10 +10,8 @@ pub struct RunLine<'a> {
     pub journal: Option<&'a str>,
     /// Whether the replies are compared with what the script expects.
     pub expect: bool,
-    /// Whether the calls that have no reply stand behind the listing.
-    pub open: bool,
-    /// How the listing is shown. It may be left away where there is a file for the journal, or the replies are compared.
-    pub form: ListingForm,
+    /// Whether the listing is left away. It may be where there is a file for the journal, or the replies are compared.
+    pub quiet: bool,
     /// Whether the run goes on behind the script's lines until it is calm.
     pub calm: bool,
 }

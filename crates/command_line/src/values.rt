@@ -4,20 +4,11 @@ ghost use Rattle.command_line.specs.rule.Kinds.{IsFlagOf, IsNumberOf, MayBeNumbe
 
 use clap::ArgMatches;
 
-/// The greatest seed, and the greatest number of an entry or of seeds.
+/// The greatest seed, and the greatest number of an entry or of tables.
 pub(crate) const GREATEST_SEED: u32 = u32::MAX;
 
 /// How many tables of a file are looked at where that is left out.
 pub(crate) const DEFAULT_STEPS: u32 = 10_000_000;
-
-/// Behind how many states to give up where that is left out.
-pub(crate) const MOST_STATES: u32 = 1_000_000;
-
-/// The most nodes of a cluster.
-pub(crate) const MOST_NODES: u32 = 64;
-
-/// The most files of a cluster.
-pub(crate) const MOST_FILES: u32 = 256;
 
 // The number from the least to the greatest that the argument has; none where it has no such number.
 pub(crate) fn number_in(values: &ArgMatches<'_>, id: &str, least: u32, greatest: u32) -> Option<u32>

@@ -48,7 +48,7 @@ journal_added old headed filled new s head version entries written count same_sh
     (adds_more old filled new front (end_text (length entries) ++ end) (adds_more old headed filled (head_text s ++ end) (entries_text s.version 1 entries) first lines) last)
 
 -- why the journal that is made beside what a run shows took no file's place is a fault of the run
-pub journal_fault : (old begun new : Files) (RanShort : Type 0) (Refuses : List ℕ → Type 0) (task : Task) (path : List ℕ) (f : Fault) → SameFiles old begun → journal_path task ≡ Some path → HasRunOf old task → IsInputFault old RanShort Refuses task fault.NoMemory → IsUnwritten begun Refuses path new f → (f ≢ fault.CannotWriteOutput) × IsFault old RanShort Refuses task new f
+pub journal_fault : (old begun new : Files) (RanShort : Type 0) (Refuses : List ℕ → Type 0) (task : Task) (path : List ℕ) (f : Fault) → SameFiles old begun → journal_path task ≡ Some path → HasRunOf old task → IsInputFault old RanShort task fault.NoMemory → IsUnwritten begun Refuses path new f → (f ≢ fault.CannotWriteOutput) × IsFault old RanShort Refuses task new f
 journal_fault old begun new RanShort Refuses task path (fault.CannotWrite named reason) same owed has short is =
     let at = sym is.0 in
     (λ e. absurd (cc), (owed ∙ ap (λ (p : List ℕ). Some p) at, has, subst Refuses at is.1, subst (SameOthers old new) at (others-after old begun new path same is.2)))

@@ -8,7 +8,7 @@ use Rattle.history_text.specs.declared.rule.Allowed.{Allowed}
 use Rattle.judgements.specs.declared.judgement_outcome.JudgementOutcome.{JudgementOutcome}
 use Rattle.judgements.specs.declared.judgement_outcome.JudgementOutcome.TheVariants as outcome
 use Rattle.replay.specs.declared.shown.Shown.{Shown}
-use Rattle.replay.specs.declared.shown.Shown.TheVariants.{Text, Wanting, Partial, Noted, Undecided, CutShort, Yes, No}
+use Rattle.replay.specs.declared.shown.Shown.TheVariants.{Text, Wanting, Partial, Undecided, CutShort, Yes, No}
 use Rattle.replay.specs.rule.Judging.{AreJudged, HasHistoryAt, IsSaidIn, IsSaidOf, shown_of}
 use Rattle.replay.specs.rule.Stores.{Files, SameFiles}
 use Rattle.replay.proofs.Stores.{had-text, same-after}
@@ -65,6 +65,5 @@ had-judged allowed orders old new paths (Wanting text) same is = (
 had-judged allowed orders old new paths (Undecided text) same is = All-weaker (HasHistoryAt allowed new) (HasHistoryAt allowed old) (λ path has. had-text old new path _ same has) paths is
 had-judged allowed orders old new paths (CutShort text) same is = is
 had-judged allowed orders old new paths (Partial text told) same is = is
-had-judged allowed orders old new paths (Noted text told) same is = is
 had-judged allowed orders old new paths Yes same is = is
 had-judged allowed orders old new paths (No position) same is = is

@@ -2,7 +2,6 @@
 use Rattle.std.proofs.Common.{◌≡◌, ℕ, true, false, List, Option, Some, inl, inr, refl, subst}
 use Rattle.std.specs.Prelude.{Bool, IsUtf8}
 use Rattle.cluster_core.specs.rule.Journals.{JournalFields}
-use Rattle.command_line.specs.declared.listing_form.ListingForm.{ListingForm}
 use Rattle.messages.specs.declared.version.Version.{Version}
 use Rattle.messages.specs.declared.version.Version.TheVariants.{First, Second}
 use Rattle.journal_text.specs.rule.Readings.{IsOld, WritesJournal}
@@ -18,7 +17,7 @@ use Rattle.replay.specs.declared.fault.Fault.TheVariants.{BadLine, CannotRead, C
 use Rattle.cluster_core.specs.rule.Runs.{IsRun}
 use Rattle.replay.specs.rule.Audits.{HasNewJournal}
 use Rattle.replay.specs.declared.shown.Shown.{Shown}
-use Rattle.replay.specs.declared.shown.Shown.TheVariants.{Text, Wanting, Partial, Noted, Undecided, CutShort, Yes, No}
+use Rattle.replay.specs.declared.shown.Shown.TheVariants.{Text, Wanting, Partial, Undecided, CutShort, Yes, No}
 use Rattle.replay.specs.rule.Commands.{GoesOn, IsGoingFault, WentOn}
 use Rattle.replay.specs.rule.Faults.{IsBehindFault, IsOldFault, IsTextFault, fault_of_parse, fault_of_play}
 use Rattle.player.specs.rule.Played.{FillsBehind, PlayedState}
@@ -77,12 +76,11 @@ going-fault old new RanShort script after journal j fault has same run files is 
     inr (j, has, run, had-fault old new RanShort script j fault files (subst (λ (k : JournalFields). IsBehindFault k (new script) RanShort script fault) same is))
 
 -- what is shown of the whole run
-pub goes-on : (old new : Files) (script : List ℕ) (j : JournalFields) (to : Option (List ℕ)) (compares with_open : Bool) (form : ListingForm) (calm : Bool) (shown : Shown) → IsRun j.shape j.entries → WentOn old script j to compares with_open form calm new shown → GoesOn old script j to compares with_open form calm new shown
-goes-on old new script j to compares with_open form calm (Text text) run went = (run, went)
-goes-on old new script j to compares with_open form calm (Partial text told) run went = (run, went)
-goes-on old new script j to compares with_open form calm (Wanting text) run went = absurd went.3
-goes-on old new script j to compares with_open form calm (Noted text told) run went = absurd went.3
-goes-on old new script j to compares with_open form calm (Undecided text) run went = absurd went.3
-goes-on old new script j to compares with_open form calm (CutShort text) run went = absurd went.3
-goes-on old new script j to compares with_open form calm Yes run went = absurd went.3
-goes-on old new script j to compares with_open form calm (No position) run went = absurd went.3
+pub goes-on : (old new : Files) (script : List ℕ) (j : JournalFields) (to : Option (List ℕ)) (compares quiet calm : Bool) (shown : Shown) → IsRun j.shape j.entries → WentOn old script j to compares quiet calm new shown → GoesOn old script j to compares quiet calm new shown
+goes-on old new script j to compares quiet calm (Text text) run went = (run, went)
+goes-on old new script j to compares quiet calm (Partial text told) run went = (run, went)
+goes-on old new script j to compares quiet calm (Wanting text) run went = absurd went.3
+goes-on old new script j to compares quiet calm (Undecided text) run went = absurd went.3
+goes-on old new script j to compares quiet calm (CutShort text) run went = absurd went.3
+goes-on old new script j to compares quiet calm Yes run went = absurd went.3
+goes-on old new script j to compares quiet calm (No position) run went = absurd went.3

@@ -9,13 +9,9 @@ pub mod Journals
 pub mod LaterRuns
 pub mod Outputs
 pub mod Refused
-pub mod Tellings
 pub mod Begins
-pub mod Explorations
 pub mod LeftFiles
-pub mod Checks
 pub mod Judging
-pub mod RecordedHistories
 pub mod AllowedRules
 pub mod Tools
 pub mod NoneStuck

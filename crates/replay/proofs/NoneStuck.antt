@@ -11,9 +11,8 @@ use Rattle.model.specs.declared.op.LockCommand.TheVariants.{Set, Wait, Query}
 use Rattle.node_core.specs.declared.open_call.OpenCall.{OpenCall}
 use Rattle.cluster_core.specs.rule.Rounds.{IsBlockedWait}
 use Rattle.cluster_core.specs.rule.World.{WorldState}
-use Rattle.views.specs.rule.OpenIn.{is_wait, open_in}
 use Rattle.states.specs.declared.open_call.OpenState.{OpenState}
-use Rattle.states.specs.rule.OpenCalls.{IsBlocker, IsOpenState, key_of}
+use Rattle.states.specs.rule.OpenCalls.{is_wait, open_in, IsBlocker, IsOpenState}
 use Rattle.states.proofs.OpenLaws.{open_told}
 use Rattle.player.specs.rule.Rounds.{NoneStuck, works}
 
@@ -28,13 +27,13 @@ told_blocked w o told wait some = by o.locks.items refl
   where
     by : (locks : List LockInfo) → o.locks.items ≡ locks → IsBlockedWait w o.asked
     by [] are = absurd (some (ap (λ (ls : List LockInfo). length ls) are))
-    by (lock ∷ rest) are = record { waits = waits o.asked.lock_command wait; lock = lock; blocks = (All-head (IsBlocker w o.asked) lock rest (subst (All (IsBlocker w o.asked)) are told.locks.each)).blocks }
+    by (lock ∷ rest) are = record { waits = waits o.asked.lock_command wait; lock = lock; blocks = (All-head (IsBlocker w o.asked) lock rest (subst (All (IsBlocker w o.asked)) are told.each)).blocks }
 
 -- the open call is blocked, if the server of its file works
 abbrev pub IsExcused : WorldState → OpenState → Type 0
 IsExcused w o = works w o.asked.file ≡ true → IsBlockedWait w o.asked
 
-pub all_excused : (w : WorldState) (told : List OpenState) → IsShape w.shape → map key_of told ≡ open_in w → All (IsExcused w) told → NoneStuck w
+pub all_excused : (w : WorldState) (told : List OpenState) → IsShape w.shape → map (λ o. o.asked) told ≡ open_in w → All (IsExcused w) told → NoneStuck w
 all_excused w told served same each n c alive at working =
     let it = open_told w told n c served same alive at in
     subst (IsBlockedWait w) it.2 (All-contains (IsExcused w) told it.0 each it.1 (ap (λ (o : OpenCall). works w o.file) it.2 ∙ working))

@@ -9,7 +9,7 @@ use Rattle.replay.specs.declared.fault.Fault.TheVariants.{BadLine, CannotRead, C
 use Rattle.replay.specs.declared.fault.Fault.TheVariants as fault
 use Rattle.replay.specs.declared.shown.Shown.{Shown}
 use Rattle.replay.specs.rule.Commands.{Leaves}
-use Rattle.replay.specs.code.Refusals.{IsHelp, refusal_status, refusal_text}
+use Rattle.replay.specs.rule.Refusals.{IsHelp, refusal_status, refusal_text}
 use Rattle.replay.specs.rule.Statuses.{status_of}
 
 -- refused words end with 3 only where help could not be shown

@@ -1,5 +1,5 @@
 -- The sections of a listing, one after the other.
-use Rattle.std.proofs.Common.{◌≡◌, ℕ, Bool, false, refl, sym, ◌∙◌, ap, subst, List, [], ◌∷◌, ◌++◌, append_assoc, append-nil, Option, Some, None}
+use Rattle.std.proofs.Common.{◌≡◌, ℕ, refl, sym, ◌∙◌, ap, subst, List, [], ◌∷◌, ◌++◌, append_assoc, append-nil, Option, Some, None}
 use Rattle.std.specs.Prelude.{flat_map}
 use Rattle.std.specs.List.{cons_option}
 use Rattle.messages.specs.declared.entry.Entry.{Entry}
@@ -7,13 +7,11 @@ use Rattle.cluster_core.specs.declared.held_lock.HeldLock.{HeldLock}
 use Rattle.cluster_core.specs.declared.item.Item.{Item}
 use Rattle.cluster_core.specs.declared.node_token_run.NodeTokenRun.{NodeTokenRun}
 use Rattle.cluster_core.specs.rule.Journals.{JournalFields}
-use Rattle.command_line.specs.declared.listing_form.ListingForm.TheVariants.{Words}
 use Rattle.cluster_core.specs.code.Placement.{items_in}
 use Rattle.lockscript.specs.declared.refused_line.RefusedLine.{RefusedLine}
 use Rattle.lockscript.specs.rule.Listing.{listing_text, listing_start, history_line, history_text}
 use Rattle.player.specs.rule.Played.{PlayedState}
 use Rattle.replay.specs.rule.Audits.{IsHistoryText}
-use Rattle.replay.specs.rule.Commands.{IsRunText}
 use Rattle.replay.specs.rule.Scripts.{IsListing, IsListingBegun}
 
 -- what begins as a listing does, and goes on with the history, is the listing
@@ -22,7 +20,7 @@ whole_listing refused entries tokens locks history start text begun whole =
     whole ∙ (ap (λ (bytes : List ℕ). bytes ++ history_text history) begun ∙ simp append_assoc refl)
 
 -- a listing that is begun, with the history of the run behind it, is the listing of the run
-pub listing_goes_on : (played : PlayedState) (start told text : List ℕ) → IsListingBegun played start → IsHistoryText played.journal told → text ≡ start ++ told → IsListing played text
+listing_goes_on : (played : PlayedState) (start told text : List ℕ) → IsListingBegun played start → IsHistoryText played.journal told → text ≡ start ++ told → IsListing played text
 listing_goes_on played start told text begun h is = record {
   tokens = begun.tokens;
   locks = begun.locks;
@@ -31,10 +29,9 @@ listing_goes_on played start told text begun h is = record {
   sections = whole_listing played.refused played.journal.entries begun.tokens begun.locks h.0 start text begun.start (is ∙ ap (λ (bytes : List ℕ). start ++ bytes) h.3);
 }
 
--- so is it with what is told of open calls behind it
-pub run_shown : (played : PlayedState) (with_open : Bool) (j : JournalFields) (start told text behind whole : List ℕ) → IsListingBegun played start → j ≡ played.journal → IsHistoryText j told → text ≡ start ++ told → (with_open ≡ false → behind ≡ []) → whole ≡ text ++ behind → IsRunText played with_open Words whole
-run_shown played with_open j start told text behind whole begun same h text_is none is =
-    (text, listing_goes_on played start told text begun (subst (λ (i : JournalFields). IsHistoryText i told) same h) text_is, (behind, none, is))
+-- so is it where the history is of the run's journal, by another name
+pub run_shown : (played : PlayedState) (j : JournalFields) (start told text : List ℕ) → IsListingBegun played start → j ≡ played.journal → IsHistoryText j told → text ≡ start ++ told → IsListing played text
+run_shown played j start told text begun same h text_is = listing_goes_on played start told text begun (subst (λ (i : JournalFields). IsHistoryText i told) same h) text_is
 
 -- what stands at one more entry
 pub items_go_on : (first : Option Item) (rest : List (Option Item)) → flat_map history_line (items_in (first ∷ rest)) ≡ flat_map history_line (cons_option first []) ++ flat_map history_line (items_in rest)

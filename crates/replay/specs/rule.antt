@@ -5,13 +5,10 @@ pub mod Statuses
 pub mod Showing
 pub mod Scripts
 pub mod Threads
-pub mod Explorations
-pub mod Recordings
-pub mod RecordedHistories
 pub mod Audits
 pub mod Faults
 pub mod ToolFaults
 pub mod Tellings
-pub mod Checks
 pub mod Judging
 pub mod Commands
+pub mod Refusals

@@ -1,5 +1,5 @@
 //! Whether the journal of a file is one of a run, and its history.
-ghost use Rattle.std.specs.Prelude.{◌≡◌, ◌≢◌, ◌≤◌, false, length, string_bytes, IfErr, IfOk};
+ghost use Rattle.std.specs.Prelude.{◌≡◌, ◌≢◌, ◌≤◌, length, string_bytes, IfErr, IfOk};
 ghost use Rattle.cluster_core.specs.rule.Journals.{JournalFields};
 ghost use Rattle.cluster_core.specs.rule.World.{journal_limit};
 ghost use Rattle.command_line.specs.rule.Tasks.{audit, history};
@@ -36,16 +36,16 @@ pub(crate) enum Audited {
     Wrong(u32),
 }
 
-// Whether the journal of a file is one of a run; why it is none is not told.
+// Whether the journal of a file is one of a run.
 pub(crate) fn audit<'a, S: Store, V: Watcher>(
     alloc: Global,
     store: &mut S,
     path: &'a str,
     watcher: &mut V,
 ) -> Result<Shown, Fault<'a>>
-    ensures done { IfOk result (Does (S.holds store.old) (audit path.now false) (S.holds store.new)) }
+    ensures done { IfOk result (Does (S.holds store.old) (audit path.now) (S.holds store.new)) }
     ensures fault { IfErr result (λ fault. (fault ≢ CannotWriteOutput)
-        × IsFault (S.holds store.old) (S.ran_short store.new) (S.refuses store.new) (audit path.now false) (S.holds store.new) fault) }
+        × IsFault (S.holds store.old) (S.ran_short store.new) (S.refuses store.new) (audit path.now) (S.holds store.new) fault) }
 {
     match first_wrong(alloc, store, path, watcher)? {
         None => Ok(Shown::Yes),
@@ -205,7 +205,7 @@ fn new_entries_of<'a, S: Store>(
 }
 
 // The shape and the entries of the journal that a file writes. Its text goes.
-pub(crate) fn entries_of<'a, S: Store>(
+fn entries_of<'a, S: Store>(
     alloc: Global,
     store: &mut S,
     path: &'a str,
@@ -220,7 +220,7 @@ pub(crate) fn entries_of<'a, S: Store>(
 
 // The shape and the entries of the journal that the text writes. Where memory is short, what is wrong with the
 // text is still told first.
-pub(crate) fn entries_in<'a>(alloc: Global, text: &str) -> Result<(Shape, Vec<Entry>), Fault<'a>>
+fn entries_in<'a>(alloc: Global, text: &str) -> Result<(Shape, Vec<Entry>), Fault<'a>>
     ensures entries { IfOk result (λ made. WritesFew text.now (record { shape = made.0; entries = made.1.items })) }
     ensures fault { IfErr result (IsTextFault text.now) }
 {

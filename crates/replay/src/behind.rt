@@ -37,9 +37,9 @@ pub(crate) fn run_behind<'a, S: Store, V: Watcher>(
     wanted: ListingOptions,
     watcher: &mut V,
 ) -> Result<Shown, Fault<'a>>
-    ensures done { IfOk result (Does (S.holds store.old) (run path.now (Some after.now) None wanted.expect wanted.open wanted.form wanted.calm) (S.holds store.new)) }
+    ensures done { IfOk result (Does (S.holds store.old) (run path.now (Some after.now) None wanted.expect wanted.quiet wanted.calm) (S.holds store.new)) }
     ensures fault { IfErr result (λ fault. (fault ≢ CannotWriteOutput)
-        × IsFault (S.holds store.old) (S.ran_short store.new) (S.refuses store.new) (run path.now (Some after.now) None wanted.expect wanted.open wanted.form wanted.calm) (S.holds store.new) fault) }
+        × IsFault (S.holds store.old) (S.ran_short store.new) (S.refuses store.new) (run path.now (Some after.now) None wanted.expect wanted.quiet wanted.calm) (S.holds store.new) fault) }
 {
     match played_behind(alloc, store, path, after, wanted, watcher)? {
         Behind::Run(Ran { played, told }) => {
@@ -59,9 +59,9 @@ pub(crate) fn run_behind_with_journal<'a, S: Store, V: Watcher>(
     wanted: ListingOptions,
     watcher: &mut V,
 ) -> Result<Shown, Fault<'a>>
-    ensures done { IfOk result (Does (S.holds store.old) (run path.now (Some after.now) (Some file.now) wanted.expect wanted.open wanted.form wanted.calm) (S.holds store.new)) }
+    ensures done { IfOk result (Does (S.holds store.old) (run path.now (Some after.now) (Some file.now) wanted.expect wanted.quiet wanted.calm) (S.holds store.new)) }
     ensures fault { IfErr result (λ fault. (fault ≢ CannotWriteOutput)
-        × IsFault (S.holds store.old) (S.ran_short store.new) (S.refuses store.new) (run path.now (Some after.now) (Some file.now) wanted.expect wanted.open wanted.form wanted.calm) (S.holds store.new) fault) }
+        × IsFault (S.holds store.old) (S.ran_short store.new) (S.refuses store.new) (run path.now (Some after.now) (Some file.now) wanted.expect wanted.quiet wanted.calm) (S.holds store.new) fault) }
 {
     let Ran { played, told } = match played_behind(alloc, store, path, after, wanted, watcher)? {
         Behind::Run(ran) => ran,

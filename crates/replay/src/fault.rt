@@ -29,8 +29,7 @@ pub enum Fault<'a> {
     JournalFull,
     /// A run can't go on behind a journal of version 1.
     OldJournal,
-    /// What is wrong with files that were to be checked: a line for each bad line of a script, the first bad line of a
-    /// journal, and of several files or beside the trial of a journal's also why one can't be read or written.
+    /// What is wrong with a history that was to be judged, or with its orders: the line for the first bad line.
     Faulty(String),
 }
 

@@ -1,5 +1,5 @@
 //! How many receipts a journal holds.
-ghost use Rattle.book.specs.code.Receipts.{Holds};
+ghost use Rattle.book.specs.rule.Receipts.{Holds};
 ghost use Rattle.replay.specs.rule.Counts.{IsCount};
 
 use book::confirms::Confirms;

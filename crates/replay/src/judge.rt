@@ -1,12 +1,11 @@
 //! Histories of clients, judged.
-ghost use Rattle.std.specs.Prelude.{◌≡◌, ⊤, map, option_map, Some, IfErr, IfOk};
+ghost use Rattle.std.specs.Prelude.{◌≡◌, map, option_map, Some, IfErr, IfOk};
 ghost use Rattle.command_line.specs.rule.JudgeTasks.{judge_task_of};
 ghost use Rattle.replay.specs.rule.Judging.{AreJudged, IsJudgedWith, allowed_of, shown_of};
 ghost use Rattle.replay.specs.rule.Stores.{SameFiles};
 ghost use Rattle.replay.specs.rule.ToolFaults.{IsToolFault};
 
 use crate::allowing::allowed_of;
-use crate::check_reports::push_named;
 use crate::fault::Fault;
 use crate::input::text_of;
 use crate::judge_text::{OrdersFile, judged_at};
@@ -15,7 +14,8 @@ use crate::store::Store;
 use command_line::judge_line::JudgeLine;
 use judgements::judgement_outcome::JudgementOutcome;
 use judgements::judging::Judging;
-use std::alloc::Global;
+use std::alloc::{AllocError, Global};
+use std::fmt::Write;
 
 /// What is said of the history of each file, by the orders of a file, if one is named; of several histories each line of that
 /// begins with the path.
@@ -25,7 +25,7 @@ pub(crate) fn judge<'a, S: Store>(
     line: &JudgeLine<'a>,
 ) -> Result<Shown, Fault<'a>>
     ensures done { IfOk result (AreJudged (S.holds store.old) (allowed_of (judge_task_of line.now).allowed) (judge_task_of line.now).histories (judge_task_of line.now).explains) }
-    ensures fault { IfErr result (IsToolFault (S.holds store.old) (IsJudgedWith (judge_task_of line.now).histories (judge_task_of line.now).explains) ⊤) }
+    ensures fault { IfErr result (IsToolFault (S.holds store.old) (IsJudgedWith (judge_task_of line.now).histories (judge_task_of line.now).explains)) }
     ensures files { SameFiles (S.holds store.old) (S.holds store.new) }
 {
     let paths = line.histories.as_slice();
@@ -60,7 +60,7 @@ fn judged_by<'a, S: Store>(
     judging: Judging,
 ) -> Result<Shown, Fault<'a>>
     ensures done { IfOk result (AreJudged (S.holds store.old) judging.allowed (map (λ path. path.now) paths.now) (Some orders.now)) }
-    ensures fault { IfErr result (IsToolFault (S.holds store.old) (IsJudgedWith (map (λ path. path.now) paths.now) (Some orders.now)) ⊤) }
+    ensures fault { IfErr result (IsToolFault (S.holds store.old) (IsJudgedWith (map (λ path. path.now) paths.now) (Some orders.now))) }
     ensures files { SameFiles (S.holds store.old) (S.holds store.new) }
 {
     let text = text_of(alloc, store, orders)?;
@@ -80,7 +80,7 @@ fn all_judged<'a, S: Store>(
     judging: Judging,
 ) -> Result<Shown, Fault<'a>>
     ensures done { IfOk result (AreJudged (S.holds store.old) judging.allowed (map (λ path. path.now) paths.now) (option_map (λ g. g.path.now) given.entry)) }
-    ensures fault { IfErr result (IsToolFault (S.holds store.old) (IsJudgedWith (map (λ path. path.now) paths.now) (option_map (λ g. g.path.now) given.entry)) ⊤) }
+    ensures fault { IfErr result (IsToolFault (S.holds store.old) (IsJudgedWith (map (λ path. path.now) paths.now) (option_map (λ g. g.path.now) given.entry))) }
     ensures files { SameFiles (S.holds store.old) (S.holds store.new) }
 {
     let mut outcome = JudgementOutcome::Yes;
@@ -103,4 +103,21 @@ fn shown_as(outcome: JudgementOutcome, text: String) -> Shown
         JudgementOutcome::Unknown => Shown::Undecided(text),
         JudgementOutcome::No => Shown::Wanting(text),
     }
+}
+
+// Writes a text, each line of it behind the path of its file if that is to stand there.
+fn push_named(out: &mut String, path: &str, text: &str, named: bool) -> Result<(), AllocError> {
+    if named {
+        push_lines(out, path, text)
+    } else {
+        out.push_str(text)
+    }
+}
+
+// Writes each line of a text behind the path of its file.
+fn push_lines(out: &mut String, path: &str, text: &str) -> Result<(), AllocError> {
+    for line in text.lines() {
+        writeln!(out, "{path}: {line}")?;
+    }
+    Ok(())
 }

@@ -1,5 +1,5 @@
 //! What is said of the history of a file.
-ghost use Rattle.std.specs.Prelude.{◌≡◌, ⊤, option_map, IfErr, IfOk};
+ghost use Rattle.std.specs.Prelude.{◌≡◌, option_map, IfErr, IfOk};
 ghost use Rattle.replay.specs.rule.Judging.{IsSaidIn, IsSaidOf};
 ghost use Rattle.replay.specs.rule.Stores.{SameFiles};
 ghost use Rattle.replay.specs.rule.ToolFaults.{IsReportOf, IsToolFault};
@@ -28,7 +28,7 @@ pub(crate) fn judged_at<'a, S: Store>(
     judging: Judging,
 ) -> Result<Judgement, Fault<'a>>
     ensures done { IfOk result (λ judgement. IsSaidOf judging.allowed (option_map (λ g. g.path.now) given.entry) (S.holds store.old) judgement.outcome path.now) }
-    ensures fault { IfErr result (IsToolFault (S.holds store.old) (λ file. file ≡ path.now) ⊤) }
+    ensures fault { IfErr result (IsToolFault (S.holds store.old) (λ file. file ≡ path.now)) }
     ensures files { SameFiles (S.holds store.old) (S.holds store.new) }
 {
     let text = text_of(alloc, store, path)?;
@@ -44,7 +44,7 @@ fn judged_in<'a>(
     judging: Judging,
 ) -> Result<Judgement, Fault<'a>>
     ensures done { IfOk result (λ judgement. IsSaidIn judging.allowed (option_map (λ g. g.path.now) given.entry) text.now judgement.outcome) }
-    ensures fault { IfErr result (IsReportOf ⊤) }
+    ensures fault { IfErr result IsReportOf }
 {
     let judged = match given {
         None => judge_history(alloc, path, text, judging),

@@ -1,8 +1,8 @@
 //! Doing what a command line asks for.
-ghost use Rattle.std.specs.Prelude.{◌≡◌, ◌≢◌, ◌≤◌, ◌<◌, ◌⊎◌, false, IfErr, IfOk, OnOk};
+ghost use Rattle.std.specs.Prelude.{◌≡◌, ◌≢◌, ◌≤◌, ◌<◌, false, IfErr, IfOk, OnOk};
 ghost use Rattle.std.specs.Io.KnownBytes.{Appends};
 ghost use Rattle.command_line.specs.rule.Tasks.{journal_path, task_of};
-ghost use Rattle.replay.specs.rule.Commands.{Does, IsCheck, IsFault, Leaves, MayNotKnow, SameBut, Shows, TellsFault, says_why};
+ghost use Rattle.replay.specs.rule.Commands.{Does, IsFault, Leaves, MayNotKnow, SameBut, Shows, TellsFault, says_why};
 ghost use Rattle.replay.specs.rule.Faults.{fault_line};
 ghost use Rattle.replay.specs.rule.Outputs.{WritesOrFails};
 ghost use Rattle.replay.specs.rule.Showing.{TellsBeside, shown_text};
@@ -25,24 +25,20 @@ use thread_runs::run_watcher::RunWatcher;
 /// left out (see below), 3 where the input or the output is at fault, 4 where memory or the journal was too small, 5 where
 /// it is not known whether histories are contradicted, or a run on threads was ended and a call could still be answered.
 ///
-/// It is 1 where the journal that the line names is none of a run, or has no call of the name, or not the entry, the node
-/// or the file that is asked for. So it is where a run on
-/// threads lacks a receipt in its journal or was ended as stuck, where an outcome, or a run that is compared with it,
-/// breaks what is expected, where an event that was refused cut off the rounds of one that is to be calm, where a part of a recording, or of the picture that is asked for, is left out, and where a
-/// history is contradicted, or is not explained by the orders that are given. The second
-/// writer is told the open calls of a run that was ended as stuck, what a run that is compared came to otherwise, what cut off rounds, the
-/// notes of a recording, and which entries a picture leaves out; at 0 it is told the warnings of a check.
+/// It is 1 where the journal that the line names is none of a run, or has not the entry that is asked for. So it is where a run on
+/// threads lacks a receipt in its journal or was ended as stuck, where a run that is compared breaks what is expected, where an
+/// event that was refused cut off the rounds of one that is to be calm, and where a history is contradicted, or is not explained
+/// by the orders that are given. The second writer is told the open calls of a run that was ended as stuck, what a run that is
+/// compared came to otherwise, and what cut off rounds.
 ///
 /// At 3 and 4 one line on the second writer says why, and the first has got nothing, but for a beginning of what is
-/// shown where it failed. Of a check there are more lines: for each of the first hundred bad lines of a script one, and
-/// one for how many more there are; and of several files, or where a journal's is tried, each with which something is
-/// wrong is told. Behind the path of a file that can't be read or written stands the reason, but of commands whose
-/// lines are fixed: runs, also on threads, audits that are asked for no reasons, and histories. Of a `Write` of std no clause says that it was flushed,
+/// shown where it failed. Behind the path of a file that can't be read or written stands the reason, but of commands whose
+/// lines are fixed: runs, also on threads, audits and histories. Of a `Write` of std no clause says that it was flushed,
 /// or that it failed where the status says so, since std says neither. Faults are looked for in this order: the file is
 /// read, its bytes are UTF-8, its lines are good, the run or the audit has room, the journal is written, what is shown
 /// is written. No file is changed but that of the journal that a run is asked for, once it comes to that. Of the lines
-/// of a script that is run or checked, the entries of a journal that is audited and the seeds that are explored the
-/// watcher is told each that is done, and of a run on threads now and then how far it is.
+/// of a script that is run and the entries of a journal that is audited the watcher is told each that is done, and of a run on
+/// threads now and then how far it is.
 pub fn perform<
     R: Threads + Wait + Clock + Sync,
     S: Store,
@@ -62,8 +58,7 @@ pub fn perform<
 
     // Done: what the file comes to is written and has gone on, the journal that a run is asked for is in
     // its file, and the second writer got nothing, but of a run that was ended as stuck its open calls, of
-    // one that is compared what was expected otherwise, and of one whose rounds were cut off by what, of a recording its notes, of a picture which entries it leaves
-    // out, and of a check its warnings.
+    // one that is compared what was expected otherwise, and of one whose rounds were cut off by what.
     ensures done { result ≤ 1 → Shows (Does (S.holds store.old) (task_of line.now) (S.holds store.new)) (O.taken out.old) (O.taken out.new)
         (TellsBeside E.taken E.has_failed err.old err.new) result }
     ensures flushed { result ≤ 1 → O.is_flushed out.new }
@@ -72,7 +67,7 @@ pub fn perform<
     // too early; no other command ends so.
     ensures undecided { result ≡ 5 → MayNotKnow (task_of line.now) × O.is_flushed out.new × Shows (Does (S.holds store.old) (task_of line.now) (S.holds store.new)) (O.taken out.old) (O.taken out.new)
         (TellsBeside E.taken E.has_failed err.old err.new) result }
-    ensures quiet { result ≡ 0 → (err.new ≡ err.old) ⊎ IsCheck (task_of line.now) }
+    ensures quiet { result ≡ 0 → err.new ≡ err.old }
 
     // Else the status tells of the first fault, and, of commands whose lines are fixed, a line on the second writer.
     ensures fault { 1 < result → result ≢ 5 → TellsFault (IsFault (S.holds store.old) (S.ran_short store.new) (S.refuses store.new) (task_of line.now) (S.holds store.new))
@@ -107,20 +102,11 @@ fn says_why(line: &CommandLine<'_>) -> bool
     ensures { result ≡ says_why (task_of line.now) }
 {
     match line {
-        CommandLine::Run(_) | CommandLine::Threads(_) | CommandLine::History { .. } => false,
-        CommandLine::Audit { why, .. } => *why,
-        CommandLine::Explain { .. }
-        | CommandLine::Open { .. }
-        | CommandLine::State(_)
-        | CommandLine::Check { .. }
-        | CommandLine::Picture(_)
-        | CommandLine::Stats { .. }
-        | CommandLine::FromStrace { .. }
-        | CommandLine::RecordedHistory { .. }
-        | CommandLine::Explore { .. }
-        | CommandLine::ExploreAll { .. }
-        | CommandLine::Schedule { .. }
-        | CommandLine::Judge(_) => true,
+        CommandLine::Run(_)
+        | CommandLine::Threads(_)
+        | CommandLine::Audit { .. }
+        | CommandLine::History { .. } => false,
+        CommandLine::State { .. } | CommandLine::Judge(_) => true,
     }
 }
 

@@ -1,8 +1,7 @@
 //! What scripts come to whose replies may be compared with what they expect.
 ghost use Rattle.std.specs.Prelude.{◌≡◌, ◌&&◌, ◌||◌, ℕ, List, drop, Bool, is_some, string_bytes, IfErr, IfOk};
 ghost use Rattle.std.specs.Option.{option_map};
-ghost use Rattle.command_line.specs.declared.listing_form.ListingForm.{ListingForm};
-ghost use Rattle.explorer.specs.rule.Comparisons.{breaks_behind, IsCompared};
+ghost use Rattle.expectations.specs.rule.Comparisons.{breaks_behind, IsCompared};
 ghost use Rattle.lockscript.specs.rule.Scripts.{LineFields};
 ghost use Rattle.messages.specs.declared.version.Version.TheVariants.{Second};
 ghost use Rattle.player.specs.code.Parts.{state_of};
@@ -18,7 +17,7 @@ use crate::input::text_of;
 use crate::shown::Shown;
 use crate::store::Store;
 use cluster_core::journal::Journal;
-use explorer::compared::compared;
+use expectations::compared::compared;
 use lockscript::script::Script;
 use lockscript::script_line::ScriptLine;
 use messages::entry::Entry;
@@ -161,8 +160,8 @@ fn entries_behind(entries: &[Entry], earlier: usize) -> &[Entry]
 
 // What is shown of a run of this text.
 pub(crate) fn shown_beside(text: String, told: Option<String>) -> Shown
-    ensures { (played : PlayedState) (telling with_open : Bool) (form : ListingForm) → IsCompared telling (option_map (λ t. string_bytes t) told)
-        → IsRunText played with_open form (string_bytes text) → ShowsRun played telling with_open form result }
+    ensures { (played : PlayedState) (telling quiet : Bool) → IsCompared telling (option_map (λ t. string_bytes t) told)
+        → IsRunText played quiet (string_bytes text) → ShowsRun played telling quiet result }
 {
     match told {
         None => Shown::Text(text),

@@ -4,11 +4,11 @@ ghost use Rattle.std.specs.Io.KnownBytes.{Appends};
 ghost use Rattle.command_line.specs.rule.Tasks.{journal_path, Task};
 ghost use Rattle.command_line.specs.rule.Words.{AreWrong, AsksFor, AsksForHelp};
 ghost use Rattle.replay.specs.declared.fault.Fault.TheVariants.{CannotWriteOutput, NoMemory};
-ghost use Rattle.replay.specs.rule.Commands.{Does, IsCheck, IsFaultOrShort, Leaves, MayNotKnow, Shows, TellsFault, says_why};
+ghost use Rattle.replay.specs.rule.Commands.{Does, IsFaultOrShort, Leaves, MayNotKnow, Shows, TellsFault, says_why};
 ghost use Rattle.replay.specs.rule.Faults.{fault_line};
 ghost use Rattle.replay.specs.rule.Outputs.{AppendsPart, WritesOrFails};
 ghost use Rattle.replay.specs.rule.Showing.{TellsBeside};
-ghost use Rattle.replay.specs.code.Refusals.{IsHelp, refusal_status, refusal_text};
+ghost use Rattle.replay.specs.rule.Refusals.{IsHelp, refusal_status, refusal_text};
 ghost use Rattle.replay.specs.rule.Statuses.{IsStatus};
 
 use crate::fault::Fault;
@@ -63,7 +63,7 @@ pub fn respond<
     ensures zero { result ≡ 0 → AsksForHelp (map W.text words.now) ⊎ ((task : Task) × AsksFor (map W.text words.now) task) }
     ensures one { result ≡ 1 → (task : Task) × AsksFor (map W.text words.now) task }
     ensures shown { result ≤ 1 → O.is_flushed out.new }
-    ensures quiet { result ≡ 0 → (err.new ≡ err.old) ⊎ ((task : Task) × AsksFor (map W.text words.now) task × IsCheck task) }
+    ensures quiet { result ≡ 0 → err.new ≡ err.old }
     ensures wrong { result ≡ 2 → AreWrong (map W.text words.now) × (out.new ≡ out.old) }
 
     // Words that ask for nothing to be done end so only where the help that they ask for could not be

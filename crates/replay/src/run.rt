@@ -1,28 +1,24 @@
 //! Running the script of a file.
-ghost use Rattle.std.specs.Prelude.{◌≡◌, ◌≢◌, [], List, None, Some, false, string_bytes, IfErr, IfOk, OnOk};
-ghost use Rattle.command_line.specs.declared.listing_form.ListingForm.TheVariants.{LeftAway, Words};
+ghost use Rattle.std.specs.Prelude.{◌≡◌, ◌≢◌, [], None, Some, string_bytes, IfErr, IfOk, OnOk};
 ghost use Rattle.command_line.specs.rule.Tasks.{run};
 ghost use Rattle.journal_text.specs.rule.Journals.{journal_text};
 ghost use Rattle.journal_text.specs.rule.Readings.{WritesJournal};
 ghost use Rattle.replay.specs.declared.fault.Fault.TheVariants.{CannotWriteOutput};
 ghost use Rattle.replay.specs.rule.Commands.{Does, IsFault, IsRunText};
 ghost use Rattle.player.specs.code.Parts.{state_of};
-ghost use Rattle.replay.specs.rule.Scripts.{IsListingBegun};
+ghost use Rattle.replay.specs.rule.Scripts.{IsListing, IsListingBegun};
 ghost use Rattle.replay.specs.rule.Stores.{Adds};
 
 use crate::drafted::committed;
-use crate::explain::open_in;
 use crate::fault::Fault;
 use crate::file_draft::FileDraft;
 use crate::journal_draft::add_journal;
 use crate::listing::{listing_begun, push_history_and_journal, push_history_of};
 use crate::listing_options::ListingOptions;
 use crate::ran::{Ran, run_of, shown_beside};
-use crate::run_json::{json_and_journal, json_of};
 use crate::shown::Shown;
 use crate::store::Store;
 use cluster_core::journal::Journal;
-use command_line::listing_form::ListingForm;
 use journal_text::laws::each_journal_is_read;
 use placement::placed_run::PlacedRun;
 use player::played::Played;
@@ -37,9 +33,9 @@ pub(crate) fn run_script<'a, S: Store, V: Watcher>(
     wanted: ListingOptions,
     watcher: &mut V,
 ) -> Result<Shown, Fault<'a>>
-    ensures done { IfOk result (Does (S.holds store.old) (run path.now None None wanted.expect wanted.open wanted.form wanted.calm) (S.holds store.new)) }
+    ensures done { IfOk result (Does (S.holds store.old) (run path.now None None wanted.expect wanted.quiet wanted.calm) (S.holds store.new)) }
     ensures fault { IfErr result (λ fault. (fault ≢ CannotWriteOutput)
-        × IsFault (S.holds store.old) (S.ran_short store.new) (S.refuses store.new) (run path.now None None wanted.expect wanted.open wanted.form wanted.calm) (S.holds store.new) fault) }
+        × IsFault (S.holds store.old) (S.ran_short store.new) (S.refuses store.new) (run path.now None None wanted.expect wanted.quiet wanted.calm) (S.holds store.new) fault) }
 {
     let Ran { played, told } = run_of(alloc, store, path, wanted.expect, wanted.calm, watcher)?;
     Ok(shown_beside(run_text(alloc, played, wanted)?, told))
@@ -55,9 +51,9 @@ pub(crate) fn run_with_journal<'a, S: Store, V: Watcher>(
     wanted: ListingOptions,
     watcher: &mut V,
 ) -> Result<Shown, Fault<'a>>
-    ensures done { IfOk result (Does (S.holds store.old) (run path.now None (Some file.now) wanted.expect wanted.open wanted.form wanted.calm) (S.holds store.new)) }
+    ensures done { IfOk result (Does (S.holds store.old) (run path.now None (Some file.now) wanted.expect wanted.quiet wanted.calm) (S.holds store.new)) }
     ensures fault { IfErr result (λ fault. (fault ≢ CannotWriteOutput)
-        × IsFault (S.holds store.old) (S.ran_short store.new) (S.refuses store.new) (run path.now None (Some file.now) wanted.expect wanted.open wanted.form wanted.calm) (S.holds store.new) fault) }
+        × IsFault (S.holds store.old) (S.ran_short store.new) (S.refuses store.new) (run path.now None (Some file.now) wanted.expect wanted.quiet wanted.calm) (S.holds store.new) fault) }
 {
     let Ran { played, told } = run_of(alloc, store, path, wanted.expect, wanted.calm, watcher)?;
     let mut draft = store.begin(file);
@@ -71,12 +67,12 @@ pub(crate) fn run_text(
     played: Played,
     wanted: ListingOptions,
 ) -> Result<String, AllocError>
-    ensures { IfOk result (λ text. IsRunText (state_of played) wanted.open wanted.form (string_bytes text)) }
+    ensures { IfOk result (λ text. IsRunText (state_of played) wanted.quiet (string_bytes text)) }
 {
-    match wanted.form {
-        ListingForm::Words => listing_of(alloc, played, wanted.open),
-        ListingForm::Json => json_of(alloc, played, wanted.open),
-        ListingForm::LeftAway => open_of(alloc, played, wanted.open),
+    if wanted.quiet {
+        Ok(String::new(alloc))
+    } else {
+        listing_of(alloc, played)
     }
 }
 
@@ -87,26 +83,23 @@ pub(crate) fn text_and_journal<D: FileDraft>(
     played: Played,
     wanted: ListingOptions,
 ) -> Result<String, AllocError>
-    ensures shown { IfOk result (λ text. IsRunText (state_of played) wanted.open wanted.form (string_bytes text)) }
+    ensures shown { IfOk result (λ text. IsRunText (state_of played) wanted.quiet (string_bytes text)) }
     ensures journal { OnOk result (Adds (D.has draft.old) (D.has draft.new) (journal_text played.journal.shape played.journal.entries)) }
     ensures read { OnOk result (WritesJournal (journal_text played.journal.shape played.journal.entries) played.journal.shape played.journal.entries) }
 {
-    match wanted.form {
-        ListingForm::Words => listing_and_journal(draft, alloc, played, wanted.open),
-        ListingForm::Json => json_and_journal(draft, alloc, played, wanted.open),
-        ListingForm::LeftAway => open_and_journal(draft, alloc, played, wanted.open),
+    if wanted.quiet {
+        journal_alone(draft, alloc, played)
+    } else {
+        listing_and_journal(draft, alloc, played)
     }
 }
 
-// The listing of a run, with the calls without a reply behind it, if that is asked for. What is no longer needed
-// goes as soon as it can: each entry once what stands there is written.
-fn listing_of(alloc: Global, played: Played, with_open: bool) -> Result<String, AllocError>
-    ensures { IfOk result (λ text. IsRunText (state_of played) with_open Words (string_bytes text)) }
+// The listing of a run. What is no longer needed goes as soon as it can: each entry once what stands there is written.
+fn listing_of(alloc: Global, played: Played) -> Result<String, AllocError>
+    ensures { IfOk result (λ text. IsListing (state_of played) (string_bytes text)) }
 {
     let (mut text, run) = listing_of_played(alloc, played)?;
-    let open = open_section(alloc, run.journal(), with_open)?;
     push_history_of(&mut text, alloc, run)?;
-    text.push_str(&open)?;
     Ok(text)
 }
 
@@ -115,44 +108,31 @@ fn listing_and_journal<D: FileDraft>(
     draft: &mut D,
     alloc: Global,
     played: Played,
-    with_open: bool,
 ) -> Result<String, AllocError>
-    ensures listing { IfOk result (λ text. IsRunText (state_of played) with_open Words (string_bytes text)) }
+    ensures listing { IfOk result (λ text. IsListing (state_of played) (string_bytes text)) }
     ensures journal { OnOk result (Adds (D.has draft.old) (D.has draft.new) (journal_text played.journal.shape played.journal.entries)) }
     ensures read { OnOk result (WritesJournal (journal_text played.journal.shape played.journal.entries) played.journal.shape played.journal.entries) }
 {
     let (mut text, run) = listing_of_played(alloc, played)?;
-    let open = open_section(alloc, run.journal(), with_open)?;
     each_journal_is_read(run.journal());
     push_history_and_journal(&mut text, draft, alloc, run)?;
-    text.push_str(&open)?;
     Ok(text)
 }
 
-// What is shown of a run without its listing: the calls without a reply, if that is asked for.
-fn open_of(alloc: Global, played: Played, with_open: bool) -> Result<String, AllocError>
-    ensures { IfOk result (λ text. IsRunText (state_of played) with_open LeftAway (string_bytes text)) }
-{
-    let journal = journal_of(played);
-    open_section(alloc, &journal, with_open)
-}
-
-// The same, with the journal of the run written to a draft.
-fn open_and_journal<D: FileDraft>(
+// Nothing, with the journal of the run written to a draft.
+fn journal_alone<D: FileDraft>(
     draft: &mut D,
     alloc: Global,
     played: Played,
-    with_open: bool,
 ) -> Result<String, AllocError>
-    ensures open { IfOk result (λ text. IsRunText (state_of played) with_open LeftAway (string_bytes text)) }
+    ensures nothing { IfOk result (λ text. string_bytes text ≡ []) }
     ensures journal { OnOk result (Adds (D.has draft.old) (D.has draft.new) (journal_text played.journal.shape played.journal.entries)) }
     ensures read { OnOk result (WritesJournal (journal_text played.journal.shape played.journal.entries) played.journal.shape played.journal.entries) }
 {
     let journal = journal_of(played);
-    let text = open_section(alloc, &journal, with_open)?;
     each_journal_is_read(&journal);
     add_journal(draft, alloc, journal)?;
-    Ok(text)
+    Ok(String::new(alloc))
 }
 
 // The journal of a run. The world goes.
@@ -161,18 +141,6 @@ fn journal_of(played: Played) -> Journal
 {
     let (journal, _world, _refused) = played.into_parts();
     journal
-}
-
-// The calls without a reply, in a section of their own, if that is asked for.
-fn open_section(alloc: Global, journal: &Journal, with_open: bool) -> Result<String, AllocError>
-    ensures { IfOk result (λ text. with_open ≡ false → string_bytes text ≡ []) }
-{
-    let mut text = String::new(alloc);
-    if with_open {
-        text.push_str("open\n")?;
-        text.push_str(&open_in(alloc, journal)?)?;
-    }
-    Ok(text)
 }
 
 // The listing of a run up to its history, and the run, whose calls have their places.

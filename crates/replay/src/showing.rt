@@ -5,20 +5,11 @@ ghost use Rattle.command_line.specs.rule.Tasks.{run, run_task_of, task_of, threa
 ghost use Rattle.replay.specs.declared.fault.Fault.TheVariants.{CannotWriteOutput};
 ghost use Rattle.replay.specs.rule.Commands.{Does, IsFault};
 
-use crate::audit::history;
+use crate::audit::{audit, history};
 use crate::behind::{run_behind, run_behind_with_journal};
-use crate::check::check;
-use crate::counted::counted;
-use crate::draw::draw;
-use crate::explain::{explain, open_calls};
-use crate::explored::{explored, scheduled};
-use crate::explored_all::explored_all;
 use crate::fault::Fault;
 use crate::judge::judge;
 use crate::listing_options::ListingOptions;
-use crate::reasoned::audit_shown;
-use crate::recorded::recorded;
-use crate::recorded_history::recorded_history;
 use crate::run::{run_script, run_with_journal};
 use crate::shown::Shown;
 use crate::state::state;
@@ -26,7 +17,6 @@ use crate::store::Store;
 use crate::threads::play_on_threads;
 use command_line::command_line::CommandLine;
 use command_line::run_line::{RunLine, ThreadsLine};
-use explorer::all::limits::Limits;
 use player::watcher::Watcher;
 use std::alloc::Global;
 use std::sync::Wait;
@@ -53,58 +43,12 @@ pub(crate) fn shown_of<'a, R: Threads + Wait + Clock + Sync, S: Store, V: Watche
     match *line {
         CommandLine::Run(asked) => run_shown(alloc, store, asked, watcher),
         CommandLine::Threads(asked) => threads_shown(rt, alloc, store, asked, watcher),
-        CommandLine::Audit { journal, why } => audit_shown(alloc, store, journal, why, watcher),
+        CommandLine::Audit { journal } => audit(alloc, store, journal, watcher),
         CommandLine::History {
             journal,
             as_clients,
         } => history(alloc, store, journal, as_clients),
-        CommandLine::Explain {
-            journal,
-            call,
-            json,
-        } => explain(alloc, store, journal, call, json),
-        CommandLine::Open { journal, json } => open_calls(alloc, store, journal, json),
-        CommandLine::State(asked) => state(alloc, store, asked),
-        CommandLine::Check {
-            ref scripts,
-            journal,
-            json,
-        } => check(alloc, store, scripts.as_slice(), journal, json, watcher),
-        CommandLine::Picture(asked) => draw(alloc, store, asked),
-        CommandLine::Stats { journal, json } => counted(alloc, store, journal, json),
-        CommandLine::FromStrace {
-            recording,
-            nodes,
-            places,
-        } => recorded(alloc, store, recording, nodes, places),
-        CommandLine::RecordedHistory { ref recordings } => {
-            recorded_history(alloc, store, recordings.as_slice())
-        }
-        CommandLine::Explore {
-            script,
-            seeds,
-            first,
-            failures,
-            json,
-        } => explored(alloc, store, script, seeds, first, failures, json, watcher),
-        CommandLine::ExploreAll {
-            script,
-            losses,
-            repeats,
-            states,
-        } => {
-            let limits = Limits {
-                losses,
-                repeats,
-                states,
-            };
-            explored_all(alloc, store, script, limits, watcher)
-        }
-        CommandLine::Schedule {
-            script,
-            seed,
-            failures,
-        } => scheduled(alloc, store, script, seed, failures),
+        CommandLine::State { journal, at } => state(alloc, store, journal, at),
         CommandLine::Judge(ref asked) => judge(alloc, store, asked),
     }
 }
@@ -123,8 +67,7 @@ fn run_shown<'a, S: Store, V: Watcher>(
 {
     let wanted = ListingOptions {
         expect: asked.expect,
-        open: asked.open,
-        form: asked.form,
+        quiet: asked.quiet,
         calm: asked.calm,
     };
     let (script, journal) = (asked.script, asked.journal);
@@ -143,9 +86,9 @@ fn run_alone_shown<'a, S: Store, V: Watcher>(
     wanted: ListingOptions,
     watcher: &mut V,
 ) -> Result<Shown, Fault<'a>>
-    ensures done { IfOk result (Does (S.holds store.old) (run script.now None (option_map (λ file. file.now) journal.entry) wanted.expect wanted.open wanted.form wanted.calm) (S.holds store.new)) }
+    ensures done { IfOk result (Does (S.holds store.old) (run script.now None (option_map (λ file. file.now) journal.entry) wanted.expect wanted.quiet wanted.calm) (S.holds store.new)) }
     ensures fault { IfErr result (λ fault. (fault ≢ CannotWriteOutput)
-        × IsFault (S.holds store.old) (S.ran_short store.new) (S.refuses store.new) (run script.now None (option_map (λ file. file.now) journal.entry) wanted.expect wanted.open wanted.form wanted.calm) (S.holds store.new) fault) }
+        × IsFault (S.holds store.old) (S.ran_short store.new) (S.refuses store.new) (run script.now None (option_map (λ file. file.now) journal.entry) wanted.expect wanted.quiet wanted.calm) (S.holds store.new) fault) }
 {
     match journal {
         None => run_script(alloc, store, script, wanted, watcher),
@@ -163,9 +106,9 @@ fn run_behind_shown<'a, S: Store, V: Watcher>(
     wanted: ListingOptions,
     watcher: &mut V,
 ) -> Result<Shown, Fault<'a>>
-    ensures done { IfOk result (Does (S.holds store.old) (run script.now (Some after.now) (option_map (λ file. file.now) journal.entry) wanted.expect wanted.open wanted.form wanted.calm) (S.holds store.new)) }
+    ensures done { IfOk result (Does (S.holds store.old) (run script.now (Some after.now) (option_map (λ file. file.now) journal.entry) wanted.expect wanted.quiet wanted.calm) (S.holds store.new)) }
     ensures fault { IfErr result (λ fault. (fault ≢ CannotWriteOutput)
-        × IsFault (S.holds store.old) (S.ran_short store.new) (S.refuses store.new) (run script.now (Some after.now) (option_map (λ file. file.now) journal.entry) wanted.expect wanted.open wanted.form wanted.calm) (S.holds store.new) fault) }
+        × IsFault (S.holds store.old) (S.ran_short store.new) (S.refuses store.new) (run script.now (Some after.now) (option_map (λ file. file.now) journal.entry) wanted.expect wanted.quiet wanted.calm) (S.holds store.new) fault) }
 {
     match journal {
         None => run_behind(alloc, store, script, after, wanted, watcher),

@@ -12,15 +12,13 @@ use itoa::Buffer;
 pub enum Shown {
     /// A text, as a listing.
     Text(String),
-    /// A text, where something is wanting: a receipt in the journal of a run on threads, a call of the name
-    /// in a journal, or a reply that a script expects.
+    /// A text, where something is wanting: a receipt in the journal of a run on threads, an entry of a journal, or an order
+    /// that explains a history.
     Wanting(String),
-    /// A text of a part of what was asked for, and what is told of the rest: of a run on threads that was
-    /// ended as stuck, a line for each call that is open then; of recorded locks, one for each that is not served; of a
-    /// picture, which entries it leaves out, or that there is none where it was asked for.
+    /// A text, and what is told of what is not as it was to be: of a run on threads that was ended as stuck, a line for each
+    /// call that is open then; of a run that is compared, one for each reply that begins otherwise than expected; of one whose
+    /// rounds were cut off, by what.
     Partial { text: String, told: String },
-    /// A text, and what is told of it beside: of scripts that were checked their warnings. Nothing is wanting.
-    Noted { text: String, told: String },
     /// A text that says that what was asked is not known, as of histories that were judged.
     Undecided(String),
     /// A text of a run on threads that was ended, though of a call that is open then it is not known that it could not be
@@ -33,12 +31,12 @@ pub enum Shown {
 }
 
 impl Shown {
-    /// The exit status: 1 where a journal is none of a run, or something is wanting or left out; 5 where it is not known; else 0.
+    /// The exit status: 1 where a journal is none of a run, or something is wanting; 5 where it is not known; else 0.
     pub fn status(&self) -> u8
         ensures { result ≡ shown_status self.now }
     {
         match self {
-            Shown::Text(_) | Shown::Noted { .. } | Shown::Yes => 0,
+            Shown::Text(_) | Shown::Yes => 0,
             Shown::Wanting(_) | Shown::Partial { .. } | Shown::No(_) => 1,
             Shown::Undecided(_) | Shown::CutShort(_) => 5,
         }
@@ -57,12 +55,12 @@ impl Shown {
         out.finish()
     }
 
-    /// Tells of what is left out, or noted, if anything is. What can't be written is lost.
+    /// Tells of what is not as it was to be, if anything is. What can't be written is lost.
     pub(crate) fn tell<E: Output>(&self, err: &mut E)
         ensures { TellsBeside E.taken E.has_failed err.old err.new self.now }
     {
         match self {
-            Shown::Partial { told, .. } | Shown::Noted { told, .. } => {
+            Shown::Partial { told, .. } => {
                 let _ = err.put(told.as_bytes());
             }
             Shown::CutShort(_) => {
@@ -81,7 +79,7 @@ impl Shown {
             | Shown::Wanting(text)
             | Shown::Undecided(text)
             | Shown::CutShort(text) => out.put(text.as_bytes()),
-            Shown::Partial { text, .. } | Shown::Noted { text, .. } => out.put(text.as_bytes()),
+            Shown::Partial { text, .. } => out.put(text.as_bytes()),
             Shown::Yes => put_line(out, "audit yes", ""),
             Shown::No(position) => put_line(out, "audit no ", Buffer::new().format(*position)),
         }

@@ -7,9 +7,8 @@ ghost use Rattle.player.specs.rule.Rounds.{NoneStuck, works};
 ghost use Rattle.states.specs.rule.OpenCalls.{IsOpenState};
 
 use cluster_core::world::World;
-use states::open_call::{OpenState, open_states};
+use states::open_call::{OpenState, is_wait, open_states};
 use std::alloc::{AllocError, Global};
-use views::pictures::open_in::is_wait;
 
 /// Whether no call is stuck: each open call of a live node about a file whose server works is a wait, and a lock blocks it.
 pub(crate) fn is_none_stuck(alloc: Global, world: &World) -> Result<bool, AllocError>

@@ -2,7 +2,7 @@
 ghost use Rattle.std.specs.Prelude.{◌≡◌, ◌≢◌, IfErr};
 ghost use Rattle.std.specs.IoError.{error_kind};
 ghost use Rattle.command_line.specs.declared.refusal.Refusal.TheVariants.{NoMemory, NotText};
-ghost use Rattle.replay.specs.code.Refusals.{AreUnread};
+ghost use Rattle.replay.specs.rule.Refusals.{AreUnread};
 
 use command_line::refusal::Refusal;
 use std::env;

@@ -12,11 +12,12 @@ use Rattle.command_line.specs.rule.Kinds.{IsOfKind}
 use Rattle.command_line.specs.rule.Words.{IsShown}
 use Rattle.seat_commands.specs.declared.words.Asked.{Asked}
 use Rattle.seat_commands.specs.rule.Asking.{IsKindOf, IsMet, IsNamed, IsRefusal, name_of}
-use Rattle.seat_commands.specs.rule.Table.{Choice, IsTable, bare_app, chosen, kind_rule, members_app, merge_app, policy_rule, seat_app}
+use Rattle.seat_commands.specs.rule.Table.{Choice, IsTable, bare_app, chosen, kind_rule, members_app, merge_app, play_app, policy_rule, seat_app}
 
 -- the table, where the words of two of its arguments lie so in memory
 abbrev table_of : Choice → Choice → App
-table_of kinds policies = with_subcommand (with_subcommand (with_subcommand bare_app (seat_app (chosen kind_rule kinds) (chosen policy_rule policies)).top) members_app.top) merge_app.top
+table_of kinds policies =
+    with_subcommand (with_subcommand (with_subcommand (with_subcommand bare_app (seat_app (chosen kind_rule kinds) (chosen policy_rule policies)).top) members_app.top) merge_app.top) play_app.top
 
 free_table : (kinds policies : Choice) → is_simple_and_free (table_of kinds policies) ≡ true
 unfolding clap_on_literals
@@ -28,7 +29,7 @@ simple_table kinds policies = refl
 
 table_is : (app : App) (table : IsTable app) → app ≡ table_of table.1.2.0 table.1.3.0
 table_is app (seat, (kind, policy, is_kind, is_policy, seat_is), app_is) =
-    app_is ∙ ap (λ (s : App). with_subcommand (with_subcommand (with_subcommand bare_app s.top) members_app.top) merge_app.top)
+    app_is ∙ ap (λ (s : App). with_subcommand (with_subcommand (with_subcommand (with_subcommand bare_app s.top) members_app.top) merge_app.top) play_app.top)
     (seat_is ∙ (λ i. seat_app (is_kind.2 i) (is_policy.2 i)))
 
 -- nothing in the table keeps clap from saying what comes of words

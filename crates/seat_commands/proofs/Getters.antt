@@ -3,7 +3,7 @@ use Rattle.std.proofs.Common.{◌≡◌, Bor, List, Option, Some, None, IfSome, 
 use Rattle.clap.specs.declared.parser.matches.Found.{Found}
 use Rattle.clap.specs.Words.{first_value, matched_of, raw_values}
 use Rattle.seat_commands.specs.declared.words.Asked.{Asked}
-use Rattle.seat_commands.specs.declared.words.Asked.TheVariants.{Seat, Members, Merge}
+use Rattle.seat_commands.specs.declared.words.Asked.TheVariants.{Seat, Members, Merge, Play}
 use Rattle.seat_commands.specs.rule.Asking.{IsNamed}
 use Rattle.seat_commands.specs.rule.Lines.{HasLogs, IsServedAsked}
 
@@ -22,3 +22,4 @@ pub served : (name : List ℕ) (f : Found) (asked : Asked) → IsNamed name f as
 served name f (Seat line) is = is.1.inside
 served name f (Members line) is = tt
 served name f (Merge line) is = tt
+served name f Play is = tt

@@ -4,17 +4,20 @@ ghost use Rattle.std.specs.Io.Buffered.{reader_remaining};
 ghost use Rattle.talks.specs.declared.talk.TalkEnd.TheVariants.{NoMemory};
 ghost use Rattle.replay.specs.rule.Statuses.{status_of};
 ghost use Rattle.seat_keeping.specs.rule.SeatTalks.{IsIn, TalksFor};
+ghost use Rattle.line_play.specs.rule.Playing.{PlaysLines};
 ghost use Rattle.seat_commands.specs.rule.Doings.{Attends, DoesSo};
 ghost use Rattle.seat_commands.specs.rule.Keeping.{HasSeat, KeepsList};
 ghost use Rattle.seat_commands.specs.rule.Lines.{IsServedAsked};
 ghost use Rattle.seat_commands.specs.rule.Names.{is_help, is_help_if, is_name, is_name_if, is_of_command};
-ghost use Rattle.seat_commands.specs.rule.Statuses.{end_status};
+ghost use Rattle.seat_commands.specs.rule.Statuses.{end_status, play_status};
 
 use crate::actor_line::ActorLine;
 use crate::added_file::open_added;
 use crate::members_command::{ListFault, keep_members};
 use crate::members_line::MembersLine;
 use crate::words::{Asked, asked_by};
+use line_play::answering::{PlayEnd, play_lines};
+use line_play::stop::Stop;
 use merging::merge_command::merge_command;
 use replay::fault::Fault;
 use replay::output::Output;
@@ -30,8 +33,8 @@ use std::rt::Files;
 use std::time::Clock;
 use talks::talk::TalkEnd;
 
-/// Does what the words ask for, the first of them being the program's name, where the second is `seat`, `members` or
-/// `merge`, or `help` before one of these, and answers the exit status; else it does nothing.
+/// Does what the words ask for, the first of them being the program's name, where the second is `seat`, `members`,
+/// `merge` or `play`, or `help` before one of these, and answers the exit status; else it does nothing.
 ///
 /// The status is 0 at the end of the input, or where help was asked for, 2 where the words are wrong, 3 where the input,
 /// the output or a file fails, 4 where memory was short; of `merge` it is that of `merge_command`. At 2 to 4 the second
@@ -98,7 +101,7 @@ fn is_help(word: &str) -> bool
 fn is_name(word: &str) -> bool
     ensures { result ≡ is_name word.now }
 {
-    matches!(word, "seat" | "members" | "merge")
+    matches!(word, "seat" | "members" | "merge" | "play")
 }
 
 // Does what is asked, and answers the exit status.
@@ -125,6 +128,10 @@ fn done<R: Files + Clock, I: Read + Drop, S: Store, O: Write, E: Write>(
             Err(fault) => told(&fault.fault(alloc, line.state), err),
         },
         Asked::Merge(line) => merge_command(alloc, store, line, out, err),
+        Asked::Play => match played_by(alloc, input, out) {
+            Ok(end) => told_play(end, err),
+            Err(_) => told(&Fault::NoMemory, err),
+        },
     }
 }
 
@@ -218,6 +225,19 @@ fn logged<R: Clock, I: Read, L: Write + Drop, O: Write>(
     }
 }
 
+// Plays the lines that are read of the input.
+fn played_by<I: Read + Drop, O: Write>(
+    alloc: Global,
+    input: I,
+    out: &mut O,
+) -> Result<PlayEnd, AllocError>
+    ensures plays { IfOk result (λ end. (left : Option (List ℕ)) × PlaysLines end (I.remaining input) left (O.contents out.old) (O.contents out.new)) }
+    ensures untouched { OnErr result (out.new ≡ out.old) }
+{
+    let mut reader = buffered(alloc, input)?;
+    Ok(play_lines(alloc, &mut reader, out))
+}
+
 // Writes why a command was not done, and answers its exit status.
 fn told<E: Output>(fault: &Fault<'_>, err: &mut E) -> u8
     ensures { result ≡ status_of fault.now }
@@ -238,6 +258,18 @@ fn told_end<E: Output>(end: TalkEnd, log: Option<&str>, err: &mut E) -> u8
             3
         }
         TalkEnd::CannotWrite => told_unwritten(log, err),
+    }
+}
+
+// Writes why lines were played no further, unless that is the end of the input, and answers the exit status.
+fn told_play<E: Output>(end: PlayEnd, err: &mut E) -> u8
+    ensures { result ≡ play_status end }
+{
+    match end {
+        PlayEnd::Talk(end) => told_end(end, None, err),
+        PlayEnd::Line(Stop::BadLine(number)) => told(&Fault::BadLine(number), err),
+        PlayEnd::Line(Stop::JournalFull) => told(&Fault::JournalFull, err),
+        PlayEnd::Line(Stop::NoMemory) => told(&Fault::NoMemory, err),
     }
 }
 

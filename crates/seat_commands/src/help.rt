@@ -70,3 +70,24 @@ line on standard error says why; 2 the words of the command line are refused; 3 
 the output is at fault; 4 no memory, or more entries than a journal may have. Example:
   lockreplay merge node-1.log node-2.log server-1.log --members members.list \\
     --journal cluster.journal";
+
+/// What stands under the options of `play`.
+pub(crate) const PLAY_NOTES: &str = "\
+Reads the lines of a script on standard input, and answers each before it reads the next.
+The first line is 'cluster nodes N files F policy P'. Empty lines, and lines that begin
+with #, are skipped, and have no answer. What stands behind the last line feed is no line.
+
+Answers:
+  journal 2 nodes N files F policy P    to the first line, and then 'end 0'
+  entry .., reply .., send ..           the entries that the line made, as a journal has them
+  end K                                 behind them: the run has K entries so far
+  refused CODE                          alone: the event was refused, and nothing changed
+To 'settle' the lines 'refused CODE' of messages that are refused stand before 'end K'. The
+codes are those of 'lockreplay run'. All answers together are the journal of the run, but
+for the lines 'refused CODE', and the lines 'end K' before the last.
+
+Exit status: 0 at the end of the input; 2 the words of the command line are refused; 3 a
+line may not stand where it does, or the input or the output fails; 4 no memory, or more
+entries than a journal may have. Example:
+  printf 'cluster nodes 2 files 1 policy wide\\ncall 1 1 spawn\\nsettle\\n' |
+    lockreplay play";

@@ -2,9 +2,9 @@
 ghost use Rattle.std.specs.Prelude.{◌≡◌, codes, true, IfOk};
 ghost use Rattle.clap.specs.Words.{app_of, new_app, rule_of, with_rule, with_subcommand};
 ghost use Rattle.command_line.specs.rule.Program.{flag_rule, number_rule, option_rule, path_rule, paths_rule};
-ghost use Rattle.seat_commands.specs.rule.Table.{IsChosen, IsSeatApp, IsTable, bare_app, between, clock_rule, files_rule, kind_rule, kinds, members_app, merge_app, needed_rule, nodes_rule, number_argument_rule, past_rule, policies, policy_rule, skew_rule};
+ghost use Rattle.seat_commands.specs.rule.Table.{IsChosen, IsSeatApp, IsTable, bare_app, between, clock_rule, files_rule, kind_rule, kinds, members_app, merge_app, needed_rule, nodes_rule, number_argument_rule, past_rule, play_app, policies, policy_rule, skew_rule};
 
-use crate::help::{MEMBERS_NOTES, MERGE_NOTES, SEAT_NOTES};
+use crate::help::{MEMBERS_NOTES, MERGE_NOTES, PLAY_NOTES, SEAT_NOTES};
 use clap::builder::ValueParser;
 use clap::{Arg, ArgAction, Command};
 use std::alloc::{AllocError, Global};
@@ -27,7 +27,8 @@ pub(crate) fn program<'a>(alloc: Global) -> Result<Command<'a>, AllocError>
 {
     let program = with_command(bare_program(alloc), seat_command(alloc)?)?;
     let program = with_command(program, members_command(alloc)?)?;
-    with_command(program, merge_command(alloc)?)
+    let program = with_command(program, merge_command(alloc)?)?;
+    with_command(program, play_command(alloc))
 }
 
 // The command line without its commands.
@@ -105,6 +106,13 @@ fn merge_command<'a>(alloc: Global) -> Result<Command<'a>, AllocError>
     let check = flag(alloc, "check", "Only tell whether there is a journal");
     let command = with_argument(command, check)?;
     with_argument(command, skew_argument(alloc))
+}
+
+fn play_command<'a>(alloc: Global) -> Command<'a>
+    ensures { app_of result ≡ play_app }
+{
+    let about = "Run a script line by line, as its lines come";
+    bare_command(alloc, "play", about, PLAY_NOTES)
 }
 
 fn logs_argument<'a>(alloc: Global) -> Arg<'a>

@@ -42,6 +42,7 @@ pub(crate) enum Asked<'a> {
     Seat(ActorLine<'a>),
     Members(MembersLine<'a>),
     Merge(MergeLine<'a>),
+    Play,
 }
 
 /// What the words ask for, the first of them being the program's name.
@@ -112,6 +113,7 @@ fn line_of<'a>(alloc: Global, matches: &ArgMatches<'a>) -> Result<Option<Asked<'
         "seat" => Ok(seat_in(values)),
         "members" => Ok(members_in(values)),
         "merge" => merge_in(alloc, values),
+        "play" => Ok(Some(Asked::Play)),
         _ => Ok(None),
     }
 }

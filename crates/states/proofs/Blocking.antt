@@ -1,6 +1,6 @@
 -- The locks that block a call, of all in order.
-use Rattle.std.specs.Prelude.{◌≡◌, ◌⊎◌, ℕ, ◌<◌, true, false, not, ◌&&◌, ◌==◌, nat_le, List, All, Contains, filter, get_or}
-use Rattle.std.proofs.Common.{refl, sym, ap, ◌∙◌, subst, inl, inr, arith}
+use Rattle.std.specs.Prelude.{◌≡◌, ◌⊎◌, ℕ, zero, suc, ◌<◌, Bool, true, false, not, ◌&&◌, ◌==◌, nat_le, List, [], ◌∷◌, All, Contains, filter, get_or, length}
+use Rattle.std.proofs.Common.{cond, refl, sym, ap, ◌∙◌, subst, inl, inr, arith}
 use Rattle.std.proofs.lemmas.Bool.{both_ways, not-true, and_parts, and_from, not_from_false, false_from_ne_true, eqb-true, eq-eqb, leb-true, le-leb}
 use Rattle.std.proofs.lemmas.List.Elements.{All-filter, All-weaker, filter_passes}
 use Rattle.std.proofs.lemmas.List.Kept.{AllPairs-filter}
@@ -9,7 +9,7 @@ use Rattle.model.specs.declared.owner.Owner.{Owner}
 use Rattle.model.specs.rule.Locks.{excludes, IsRegion}
 use Rattle.model.specs.rule.Owners.{same_owner}
 use Rattle.model.proofs.OwnerLaws.{owner_exact, owner_refl}
-use Rattle.lock_table.specs.code.Listing.{IsBefore}
+use Rattle.lock_table.specs.rule.Listing.{IsBefore}
 use Rattle.node_core.specs.declared.open_call.OpenCall.{OpenCall}
 use Rattle.cluster_core.specs.declared.held_lock.HeldLock.{HeldLock}
 use Rattle.cluster_core.specs.rule.World.{WorldState, has_file}
@@ -17,9 +17,24 @@ use Rattle.cluster_core.specs.rule.Union.{union}
 use Rattle.cluster_core.specs.rule.Listings.{Lists, IsHeld, IsHeldBefore, IsLockListing, held_lock}
 use Rattle.cluster_core.proofs.common.Lists.{All-both, lists_map}
 use Rattle.states.specs.rule.OpenCalls.{IsBlocker}
-use Rattle.views.specs.rule.OpenIn.{is_blocker}
-use Rattle.states.specs.code.Lists.{blocking_of}
-use Rattle.states.proofs.Links.{Contains-filter}
+use Rattle.states.specs.code.Blockers.{blocking_of, is_blocker}
+
+-- what is in a list and passes the test is in what a filter keeps
+Contains-filter : {X : Type 0} (p : X → Bool) (xs : List X) (x : X) → Contains xs x → p x ≡ true → Contains (filter p xs) x
+Contains-filter p [] x found passes = absurd (let none = found.1 in omega arith)
+Contains-filter {X} p (y ∷ ys) x found passes = by found.0 found.1 found.2 (λ later. Contains-filter p ys x later passes)
+  where
+    front : (b : Bool) → b ≡ true → Contains (cond b (y ∷ filter p ys) (filter p ys)) y
+    front true here = (0, omega arith, refl)
+    front false here = absurd (both_ways false refl here)
+
+    behind : (b : Bool) → Contains (filter p ys) x → Contains (cond b (y ∷ filter p ys) (filter p ys)) x
+    behind true later = (suc later.0, let lt = later.1 in omega arith, later.2)
+    behind false later = later
+
+    by : (k : ℕ) → k < length (y ∷ ys) → get_or (y ∷ ys) k x ≡ x → (Contains ys x → Contains (filter p ys) x) → Contains (filter p (y ∷ ys)) x
+    by zero lt is rest = subst (λ (z : X). Contains (cond (p y) (y ∷ filter p ys) (filter p ys)) z) is (front (p y) (ap p is ∙ passes))
+    by (suc k) lt is rest = behind (p y) (rest (k, omega arith, is))
 
 -- what passes is of the call's file, and blocks it
 blocks : (w : WorldState) (c : OpenCall) (h : HeldLock) → IsHeld w h → is_blocker c h ≡ true → (h.file ≡ c.file) × IsBlocker w c h.lock

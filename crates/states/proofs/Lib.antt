@@ -1,6 +1,4 @@
-pub mod Links
-pub mod Loops
-pub mod Requests
 pub mod Blocking
-pub mod ToldLaws
 pub mod OpenLaws
+pub mod OpenLists
+pub mod ToldLaws

@@ -6,21 +6,12 @@ use Rattle.std.proofs.lemmas.List.Elements.{Contains-append_left, Contains-appen
 use Rattle.model.specs.rule.Limits.{most_nodes}
 use Rattle.node_core.specs.declared.open_call.OpenCall.{OpenCall}
 use Rattle.cluster_core.specs.rule.World.{WorldState, has_node, is_alive}
-use Rattle.views.specs.declared.pictures.open_in.NamedCall.{NamedCall}
-use Rattle.views.specs.rule.OpenIn.{named_on, open_of, open_on, open_up_to}
-use Rattle.states.specs.rule.OpenCalls.{EachOpenIsTold, key_of}
+use Rattle.messages.specs.rule.Shapes.{IsShape}
+use Rattle.states.specs.declared.open_call.OpenState.{OpenState}
+use Rattle.states.specs.rule.OpenCalls.{open_in, open_on, open_up_to}
 
 module _ {A B : Type 0} (f : A → B) where
-  -- what f gives of an element is among what it gives
-  pub there : (xs : List A) (x : A) → Contains xs x → Contains (map f xs) (f x)
-  there [] x at = absurd (let lt = at.1 in omega arith)
-  there (y ∷ ys) x at = by (there ys x) at.0 at.1 at.2
-    where
-      by : (Contains ys x → Contains (map f ys) (f x)) → (k : ℕ) → k < length (y ∷ ys) → get_or (y ∷ ys) k x ≡ x → Contains (map f (y ∷ ys)) (f x)
-      by rest zero lt is = (0, omega arith, ap f is)
-      by rest (suc k) lt is = let later = rest (k, omega (arith, lt), is) in let below = later.1 in (suc later.0, omega (arith, below), later.2)
-
-  -- and what is among that is given of one
+  -- what is among what f gives of the elements is given of one
   pub of_one : (xs : List A) (y : B) → Contains (map f xs) y → (x : A) × Contains xs x × (f x ≡ y)
   of_one [] y at = absurd (let lt = at.1 in omega arith)
   of_one (x ∷ xs) y at = by (of_one xs y) at.0 at.1 at.2
@@ -34,10 +25,10 @@ module _ {A B : Type 0} (f : A → B) where
           (later.0, (suc at.0, omega (arith, below), at.2), later.2)
 
 -- the open calls of a live node are among those of the nodes up to it
-pub onto_node : (w : WorldState) (n : ℕ) (c : OpenCall) → is_alive w n ≡ true → Contains (w.nodes n).pending c → Contains (open_on w n) (named_on (w.nodes n) c)
-onto_node w n c alive at = subst (λ (b : Bool). Contains (if b then open_of (w.nodes n) else []) (named_on (w.nodes n) c)) (sym alive) (there (named_on (w.nodes n)) (w.nodes n).pending c at)
+onto_node : (w : WorldState) (n : ℕ) (c : OpenCall) → is_alive w n ≡ true → Contains (w.nodes n).pending c → Contains (open_on w n) c
+onto_node w n c alive at = subst (λ (b : Bool). Contains (if b then (w.nodes n).pending else []) c) (sym alive) at
 
-pub up_to : (w : WorldState) (count n : ℕ) (x : NamedCall) → 1 ≤ n → n ≤ count → Contains (open_on w n) x → Contains (open_up_to w count) x
+up_to : (w : WorldState) (count n : ℕ) (x : OpenCall) → 1 ≤ n → n ≤ count → Contains (open_on w n) x → Contains (open_up_to w count) x
 unfolding open_up_to
 up_to w zero n x least most at = absurd (omega (arith, least, most))
 up_to w (suc count) n x least most at = elim (cases_lt n (suc count)) [
@@ -45,13 +36,14 @@ up_to w (suc count) n x least most at = elim (cases_lt n (suc count)) [
   | inr ge ↦ let last : n ≡ suc count = omega (arith, ge, most) in Contains-append_right (open_up_to w count) (open_on w (suc count)) x (subst (λ (k : ℕ). Contains (open_on w k) x) last at)
 ]
 
-pub open_told : EachOpenIsTold
+-- where the calls that are told are those of the world, each open call of a live node is told
+pub open_told : (w : WorldState) (told : List OpenState) (n : ℕ) (c : OpenCall) → IsShape w.shape → map (λ o. o.asked) told ≡ open_in w → is_alive w n ≡ true → Contains (w.nodes n).pending c
+    → (o : OpenState) × Contains told o × (o.asked ≡ c)
 open_told w told n c is same alive at =
     let number = (and_parts (has_node w n) (w.alive n) alive).0 in
     let bounds = and_parts (nat_le 1 n) (nat_le n w.shape.nodes) number in
     let least : 1 ≤ n = leb-true 1 n bounds.0 in
     let within : n ≤ w.shape.nodes = leb-true n w.shape.nodes bounds.1 in
     let few = is.nodes_in.1 in
-    let all = up_to w most_nodes n (named_on (w.nodes n) c) least (omega (arith, within, few)) (onto_node w n c alive at) in
-    let one = of_one key_of told (named_on (w.nodes n) c) (subst (λ (xs : List NamedCall). Contains xs (named_on (w.nodes n) c)) (sym same) all) in
-    (one.0, one.1, ap (λ (x : NamedCall). x.asked) one.2)
+    let all = up_to w most_nodes n c least (omega (arith, within, few)) (onto_node w n c alive at) in
+    of_one (λ (o : OpenState). o.asked) told c (subst (λ (xs : List OpenCall). Contains xs c) (sym same) all)

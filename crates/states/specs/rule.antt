@@ -1,5 +1,3 @@
-pub mod Choices
-pub mod States
-pub mod Places
 pub mod OpenCalls
-pub mod Cycles
+pub mod States
+pub mod Texts

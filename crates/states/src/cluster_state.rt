@@ -1,12 +1,10 @@
 //! What is told of a world.
 ghost use Rattle.std.specs.Prelude.{◌≡◌, true, false, All, IfOk, MatchOption, map};
 ghost use Rattle.token_server.specs.rule.Parts.{server_state};
-ghost use Rattle.cluster_core.specs.rule.Listings.{IsTokenListing, IsLockListing};
 ghost use Rattle.cluster_core.specs.rule.Parts.{world_state};
-ghost use Rattle.states.specs.rule.Choices.{tells_node, tells_file, tells_server, tells_token, tells_lock, told_nodes, told_files, told_servers, Narrows};
-ghost use Rattle.states.specs.rule.States.{IsStateOf, IsToldNode, IsToldServer, told_epoch};
+ghost use Rattle.cluster_core.specs.rule.World.{has_file, has_node};
+ghost use Rattle.states.specs.rule.States.{told_epoch, told_files, told_nodes, told_servers, works, IsStateOf, IsToldNode, IsToldServer};
 
-use crate::chosen::Chosen;
 use crate::told_node::ToldNode;
 use crate::told_server::{ToldEpoch, ToldServer};
 use cluster_core::held_lock::HeldLock;
@@ -35,54 +33,54 @@ pub struct ClusterState {
 }
 
 impl ClusterState {
-    /// What is told of the world, of the chosen nodes and files.
-    pub fn of(alloc: Global, world: &World, chosen: Chosen) -> Result<ClusterState, AllocError>
-        ensures { IfOk result (IsStateOf (world_state world.now) chosen) }
+    /// What is told of the world.
+    pub fn of(alloc: Global, world: &World) -> Result<ClusterState, AllocError>
+        ensures { IfOk result (IsStateOf (world_state world.now)) }
     {
         Ok(ClusterState {
-            nodes: nodes(alloc, world, chosen)?,
-            epochs: epochs(alloc, world, chosen)?,
-            tokens: tokens(alloc, world, chosen)?,
-            locks: locks(alloc, world, chosen)?,
-            servers: servers(alloc, world, chosen)?,
+            nodes: nodes(alloc, world)?,
+            epochs: epochs(alloc, world)?,
+            tokens: world.tokens(alloc)?,
+            locks: world.locks(alloc)?,
+            servers: servers(alloc, world)?,
         })
     }
 }
 
-// Whether the node is one of the cluster, and chosen.
-fn tells_node(world: &World, chosen: Chosen, node: u8) -> bool
-    ensures { result ≡ tells_node (world_state world.now) chosen node }
+// Whether the node is one of the cluster.
+fn has_node(world: &World, node: u8) -> bool
+    ensures { result ≡ has_node (world_state world.now) node }
 {
-    world.knows(&Event::Member(MemberEvent::Declare { node })) && chosen.has_node(node)
+    world.knows(&Event::Member(MemberEvent::Declare { node }))
 }
 
 // The nodes of the world.
-fn nodes(alloc: Global, world: &World, chosen: Chosen) -> Result<Vec<ToldNode>, AllocError>
-    ensures numbers { IfOk result (λ nodes. map (λ n. n.node) nodes.items ≡ told_nodes (world_state world.now) chosen) }
-    ensures each { IfOk result (λ nodes. All (IsToldNode (world_state world.now) chosen) nodes.items) }
+fn nodes(alloc: Global, world: &World) -> Result<Vec<ToldNode>, AllocError>
+    ensures numbers { IfOk result (λ nodes. map (λ n. n.node) nodes.items ≡ told_nodes (world_state world.now)) }
+    ensures each { IfOk result (λ nodes. All (IsToldNode (world_state world.now)) nodes.items) }
 {
     let mut nodes = Vec::new(alloc);
     for place in 0..MOST_NODES {
         let node = place + 1;
-        if tells_node(world, chosen, node) {
-            nodes.push(ToldNode::of(alloc, world, chosen, node)?)?;
+        if has_node(world, node) {
+            nodes.push(ToldNode::of(alloc, world, node)?)?;
         }
     }
     Ok(nodes)
 }
 
-// Whether the file is one of the cluster, and chosen.
-fn tells_file(world: &World, chosen: Chosen, file: u16) -> bool
-    ensures { result ≡ tells_file (world_state world.now) chosen file }
+// Whether the file is one of the cluster.
+fn has_file(world: &World, file: u16) -> bool
+    ensures { result ≡ has_file (world_state world.now) file }
 {
-    world.knows(&Event::AtServer(file, ServerInput::Resend)) && chosen.has_file(file)
+    world.knows(&Event::AtServer(file, ServerInput::Resend))
 }
 
-// The epoch of the server of the file, if the file is told of.
-fn epoch_of(world: &World, chosen: Chosen, file: u16) -> Option<ToldEpoch>
-    ensures { let w = world_state world.now in MatchOption result (tells_file w chosen file ≡ false) (λ e. (tells_file w chosen file ≡ true) × (e ≡ told_epoch w file)) }
+// The epoch of the server of the file, if the file is one of the cluster.
+fn epoch_of(world: &World, file: u16) -> Option<ToldEpoch>
+    ensures { let w = world_state world.now in MatchOption result (has_file w file ≡ false) (λ e. (has_file w file ≡ true) × (e ≡ told_epoch w file)) }
 {
-    if !tells_file(world, chosen, file) {
+    if !has_file(world, file) {
         return None;
     }
     let server = world.server_of(file)?;
@@ -94,56 +92,38 @@ fn epoch_of(world: &World, chosen: Chosen, file: u16) -> Option<ToldEpoch>
 }
 
 // The epochs of the servers of the world.
-fn epochs(alloc: Global, world: &World, chosen: Chosen) -> Result<Vec<ToldEpoch>, AllocError>
-    ensures { IfOk result (λ epochs. epochs.items ≡ map (told_epoch (world_state world.now)) (told_files (world_state world.now) chosen)) }
+fn epochs(alloc: Global, world: &World) -> Result<Vec<ToldEpoch>, AllocError>
+    ensures { IfOk result (λ epochs. epochs.items ≡ map (told_epoch (world_state world.now)) (told_files (world_state world.now))) }
 {
     let mut epochs = Vec::new(alloc);
     for place in 0..MOST_FILES {
-        if let Some(epoch) = epoch_of(world, chosen, place + 1) {
+        if let Some(epoch) = epoch_of(world, place + 1) {
             epochs.push(epoch)?;
         }
     }
     Ok(epochs)
 }
 
-// The tokens of the world.
-fn tokens(alloc: Global, world: &World, chosen: Chosen) -> Result<Vec<NodeTokenRun>, AllocError>
-    ensures { IfOk result (λ tokens. Narrows (IsTokenListing (world_state world.now)) (tells_token chosen) tokens.items) }
-{
-    let mut tokens = world.tokens(alloc)?;
-    tokens.retain(|token| chosen.has_node(token.node) && chosen.has_file(token.file));
-    Ok(tokens)
-}
-
-// The locks of the world.
-fn locks(alloc: Global, world: &World, chosen: Chosen) -> Result<Vec<HeldLock>, AllocError>
-    ensures { IfOk result (λ locks. Narrows (IsLockListing (world_state world.now)) (tells_lock chosen) locks.items) }
-{
-    let mut locks = world.locks(alloc)?;
-    locks.retain(|held| chosen.has_node(held.lock.owner.node) && chosen.has_file(held.file));
-    Ok(locks)
-}
-
 // The token servers of the world that work.
-fn servers(alloc: Global, world: &World, chosen: Chosen) -> Result<Vec<ToldServer>, AllocError>
-    ensures files { IfOk result (λ servers. map (λ s. s.file) servers.items ≡ told_servers (world_state world.now) chosen) }
-    ensures each { IfOk result (λ servers. All (λ s. IsToldServer ((world_state world.now).servers s.file) chosen s) servers.items) }
+fn servers(alloc: Global, world: &World) -> Result<Vec<ToldServer>, AllocError>
+    ensures files { IfOk result (λ servers. map (λ s. s.file) servers.items ≡ told_servers (world_state world.now)) }
+    ensures each { IfOk result (λ servers. All (λ s. IsToldServer ((world_state world.now).servers s.file) s) servers.items) }
 {
     let mut servers = Vec::new(alloc);
     for place in 0..MOST_FILES {
         let file = place + 1;
-        if let Some(server) = server_of(world, chosen, file) {
-            servers.push(ToldServer::of(alloc, server, chosen, FileNumber::of(file))?)?;
+        if let Some(server) = server_of(world, file) {
+            servers.push(ToldServer::of(alloc, server, FileNumber::of(file))?)?;
         }
     }
     Ok(servers)
 }
 
-// The server of the file, if it is told of.
-fn server_of(world: &World, chosen: Chosen, file: u16) -> Option<&Server>
-    ensures { let w = world_state world.now in MatchOption result (tells_server w chosen file ≡ false) (λ s. (tells_server w chosen file ≡ true) × (server_state s.now ≡ w.servers file)) }
+// The server of the file, if it works.
+fn server_of(world: &World, file: u16) -> Option<&Server>
+    ensures { let w = world_state world.now in MatchOption result (works w file ≡ false) (λ s. (works w file ≡ true) × (server_state s.now ≡ w.servers file)) }
 {
-    if !world.is_working(file) || !chosen.has_file(file) {
+    if !world.is_working(file) {
         return None;
     }
     world.server_of(file)

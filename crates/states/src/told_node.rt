@@ -3,7 +3,6 @@ ghost use Rattle.std.specs.Prelude.{◌≡◌, IfOk};
 ghost use Rattle.cluster_core.specs.rule.Parts.{world_state};
 ghost use Rattle.states.specs.rule.States.{IsToldNode};
 
-use crate::chosen::Chosen;
 use cluster_core::world::World;
 use node_core::open_call::OpenCall;
 use std::alloc::{AllocError, Global};
@@ -16,19 +15,14 @@ pub struct ToldNode {
     pub live: Option<u16>,
     /// The greatest incarnation that was declared failed, as all before it were; 0 where none was.
     pub dead: u16,
-    /// The calls of that live incarnation without a reply yet that are of a chosen file, in order of arrival.
+    /// The calls of that live incarnation without a reply yet, in order of arrival.
     pub calls: Vec<OpenCall>,
 }
 
 impl ToldNode {
     /// What is told of this node of the world.
-    pub(crate) fn of(
-        alloc: Global,
-        world: &World,
-        chosen: Chosen,
-        node: u8,
-    ) -> Result<ToldNode, AllocError>
-        ensures told { IfOk result (IsToldNode (world_state world.now) chosen) }
+    pub(crate) fn of(alloc: Global, world: &World, node: u8) -> Result<ToldNode, AllocError>
+        ensures told { IfOk result (IsToldNode (world_state world.now)) }
         ensures node { IfOk result (λ told. told.node ≡ node) }
     {
         let dead = world.dead(node);
@@ -40,8 +34,7 @@ impl ToldNode {
                 calls: Vec::new(alloc),
             });
         };
-        let mut calls = Vec::from_slice(alloc, alive.open_calls())?;
-        calls.retain(|call| chosen.has_file(call.file));
+        let calls = Vec::from_slice(alloc, alive.open_calls())?;
         Ok(ToldNode {
             node,
             live: Some(alive.incarnation()),

@@ -1,13 +1,10 @@
 //! What is told of a token server.
-ghost use Rattle.std.specs.Prelude.{◌≡◌, IfOk, map, filter};
+ghost use Rattle.std.specs.Prelude.{◌≡◌, IfOk, map};
 ghost use Rattle.model.specs.rule.Limits.{most_nodes};
-ghost use Rattle.token_server.specs.rule.Rows.{is_awaited};
 ghost use Rattle.token_server.specs.rule.Parts.{server_state};
-ghost use Rattle.token_server.specs.code.Readers.{nodes_where};
-ghost use Rattle.states.specs.rule.Choices.{is_chosen, tells_held, tells_dead, Narrows};
-ghost use Rattle.states.specs.rule.States.{AreRows, AreServed, IsToldServer, known_dead};
+ghost use Rattle.states.specs.rule.Texts.{failed_epoch};
+ghost use Rattle.states.specs.rule.States.{AreRows, AreServed, IsToldServer, known_dead, knows_dead, numbers_where};
 
-use crate::chosen::Chosen;
 use messages::file_number::FileNumber;
 use model::limits::MOST_NODES;
 use std::alloc::{AllocError, Global};
@@ -27,7 +24,9 @@ pub struct ToldEpoch {
 
 impl ToldEpoch {
     /// The greatest epoch that failed, as all before it did; 0 where none did.
-    pub(crate) fn failed(self) -> u16 {
+    pub(crate) fn failed(self) -> u16
+        ensures { result ≡ failed_epoch self }
+    {
         if self.works {
             self.epoch.saturating_sub(1)
         } else {
@@ -68,75 +67,53 @@ impl ToldServer {
     pub(crate) fn of(
         alloc: Global,
         server: &Server,
-        chosen: Chosen,
         file: FileNumber,
     ) -> Result<ToldServer, AllocError>
-        ensures told { IfOk result (IsToldServer (server_state server.now) chosen) }
+        ensures told { IfOk result (IsToldServer (server_state server.now)) }
         ensures file { IfOk result (λ told. told.file ≡ file) }
     {
         Ok(ToldServer {
             file,
-            served: served(alloc, server, chosen)?,
-            queued: chosen_of(server.queued(alloc)?, chosen),
-            waiting: chosen_of(server.waiting(alloc)?, chosen),
-            rows: rows(alloc, server, chosen)?,
-            awaited: awaited(alloc, server, chosen)?,
-            dead: dead(alloc, server, chosen)?,
+            served: served(alloc, server)?,
+            queued: server.queued(alloc)?,
+            waiting: server.waiting(alloc)?,
+            rows: rows(alloc, server)?,
+            awaited: server.awaited_nodes(alloc)?,
+            dead: dead(alloc, server)?,
         })
     }
 }
 
 // The requests that the server serves.
-fn served(alloc: Global, server: &Server, chosen: Chosen) -> Result<Vec<ActiveRequest>, AllocError>
-    ensures { IfOk result (λ held. Narrows (AreServed (server_state server.now)) (tells_held chosen) held.items) }
+fn served(alloc: Global, server: &Server) -> Result<Vec<ActiveRequest>, AllocError>
+    ensures { IfOk result (λ held. AreServed (server_state server.now) held.items) }
 {
-    let mut held = Vec::from_slice(alloc, server.served())?;
-    held.retain(|held| chosen.has_held(held));
-    Ok(held)
+    Vec::from_slice(alloc, server.served())
 }
 
-// Those of the requests that are told of.
-fn chosen_of(requests: Vec<TokenRequest>, chosen: Chosen) -> Vec<TokenRequest>
-    ensures { result.items ≡ filter (λ r. is_chosen chosen.node r.call.node) requests.items }
+// The rows of the server, as they are shown.
+fn rows(alloc: Global, server: &Server) -> Result<Vec<ShownRow>, AllocError>
+    ensures { IfOk result (λ rows. AreRows (server_state server.now) rows.items) }
 {
-    let mut requests = requests;
-    requests.retain(|request| chosen.has_request(request));
-    requests
-}
-
-// The rows of the nodes.
-fn rows(alloc: Global, server: &Server, chosen: Chosen) -> Result<Vec<ShownRow>, AllocError>
-    ensures { IfOk result (λ rows. Narrows (AreRows (server_state server.now)) (λ r. is_chosen chosen.node r.node) rows.items) }
-{
-    let mut rows = server.rows(alloc)?;
-    rows.retain(|row| chosen.has_node(row.node));
+    let rows = server.rows(alloc)?;
     Ok(rows)
 }
 
-// The nodes whose reports the server awaits.
-fn awaited(alloc: Global, server: &Server, chosen: Chosen) -> Result<Vec<u8>, AllocError>
-    ensures { let s = server_state server.now in IfOk result (λ nodes. nodes.items ≡ filter (is_chosen chosen.node) (nodes_where (λ n. is_awaited (s.rows n)) s.shape.nodes)) }
+// Whether the server knows an incarnation of the node to be dead.
+fn knows_dead(server: &Server, node: u8) -> bool
+    ensures { result ≡ knows_dead (server_state server.now) node }
 {
-    let mut nodes = server.awaited_nodes(alloc)?;
-    nodes.retain(|node| chosen.has_node(*node));
-    Ok(nodes)
-}
-
-// Whether the server knows an incarnation of the node to be dead, and the node is chosen.
-fn tells_dead(server: &Server, chosen: Chosen, node: u8) -> bool
-    ensures { result ≡ tells_dead (server_state server.now) chosen node }
-{
-    server.dead(node) > 0 && chosen.has_node(node)
+    server.dead(node) > 0
 }
 
 // The nodes of which the server knows an incarnation to be dead.
-fn dead(alloc: Global, server: &Server, chosen: Chosen) -> Result<Vec<KnownDead>, AllocError>
-    ensures { let s = server_state server.now in IfOk result (λ dead. dead.items ≡ map (known_dead s) (nodes_where (tells_dead s chosen) most_nodes)) }
+fn dead(alloc: Global, server: &Server) -> Result<Vec<KnownDead>, AllocError>
+    ensures { let s = server_state server.now in IfOk result (λ dead. dead.items ≡ map (known_dead s) (numbers_where (knows_dead s) most_nodes)) }
 {
     let mut dead = Vec::new(alloc);
     for place in 0..MOST_NODES {
         let node = place + 1;
-        if tells_dead(server, chosen, node) {
+        if knows_dead(server, node) {
             let incarnation = server.dead(node);
             dead.push(KnownDead { node, incarnation })?;
         }

@@ -1,5 +1,5 @@
 -- What a judgement may be asked for.
-use Rattle.std.specs.Prelude.{ℕ, ◌≡◌, ◌≢◌, ⊤, Bool, true, false, List, Option, Some, None, [], ◌∷◌, codes, length, map, option_map}
+use Rattle.std.specs.Prelude.{ℕ, ◌≡◌, ◌≢◌, ⊤, Bool, true, false, List, Option, Some, None, [], codes, length, map, option_map}
 use Rattle.clap.specs.Words.{Text}
 use Rattle.command_line.specs.declared.judge_line.JudgeLine.{JudgeLine}
 use Rattle.command_line.specs.declared.allowed_rule.AllowedRule.{AllowedRule}
@@ -38,28 +38,9 @@ rule_text NoQuery = codes "no-query"
 rule_text StaleReadDenial = codes "stale-read-denial"
 rule_text LostAt = codes "lost-at"
 
--- the words that ask for rules to be allowed
-abbrev pub allow_words : List AllowedRule → List Text
-allow_words [] = []
-allow_words (rule ∷ rules) = codes "--allow" ∷ rule_text rule ∷ allow_words rules
-
 -- how many tables of a file are looked at where that is left out
 abbrev pub default_steps : ℕ
 default_steps = 10000000
-
--- what is asked where nothing but the path of a history is given
-abbrev pub plain_judgement : Text → JudgeTask
-plain_judgement path = record {
-  histories = path ∷ [];
-  steps = default_steps;
-  explains = None;
-  allowed = [];
-  order = false;
-  go_on = false;
-  stats = false;
-  json = false;
-  picture = false;
-}
 
 -- a history is judged by an order alone: nothing is searched
 abbrev pub MayExplain : Option Text → JudgeTask → Type 0

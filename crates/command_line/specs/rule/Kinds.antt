@@ -7,10 +7,8 @@ use Rattle.clap.specs.declared.error.kind.ErrorKind.TheVariants.{OutOfMemory}
 use Rattle.command_line.specs.rule.Met.{flag_text, IsMet, IsNumber, MayBeNumber}
 use Rattle.command_line.specs.rule.Program.{program_app}
 use Rattle.command_line.specs.rule.JudgeTasks.{rule_text}
-use Rattle.command_line.specs.rule.Tasks.{Task, format_text, is_json, is_quiet, task_of}
+use Rattle.command_line.specs.rule.Tasks.{Task, task_of}
 use Rattle.command_line.specs.rule.Words.{AsksForNothing, IsShown}
-use Rattle.command_line.specs.declared.format.Format.{Format}
-use Rattle.command_line.specs.declared.listing_form.ListingForm.{ListingForm}
 use Rattle.command_line.specs.declared.command_line.CommandLine.{CommandLine}
 use Rattle.command_line.specs.declared.allowed_rule.AllowedRule.{AllowedRule}
 use Rattle.command_line.specs.declared.refusal.Refusal.{Refusal}
@@ -43,15 +41,6 @@ MayBeNumberOf least greatest value result = MatchOption result ((number : Option
 -- the flag whose text the argument has
 abbrev pub IsFlagOf : Option Text → Option Bool → Type 0
 IsFlagOf value result = MatchOption result ((flag : Bool) → value ≡ Some (flag_text flag) → ⊥) (λ flag. value ≡ Some (flag_text flag))
-
--- the format whose word the argument has
-abbrev pub IsFormatOf : Option Text → Option Format → Type 0
-IsFormatOf value result = MatchOption result ((format : Format) → value ≡ Some (format_text format) → ⊥) (λ format. value ≡ Some (format_text format))
-
--- the form whose flags, `--quiet` and `--json`, have these texts
-abbrev pub IsFormOf : Option Text → Option Text → Option ListingForm → Type 0
-IsFormOf quiet json result =
-    MatchOption result ((form : ListingForm) → quiet ≡ Some (flag_text (is_quiet form)) → json ≡ Some (flag_text (is_json form)) → ⊥) (λ form. (quiet ≡ Some (flag_text (is_quiet form))) × (json ≡ Some (flag_text (is_json form))))
 
 -- the rule of the word
 abbrev pub IsRuleOf : Text → Option AllowedRule → Type 0

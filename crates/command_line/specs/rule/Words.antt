@@ -1,23 +1,15 @@
 -- What the words of a command line ask for.
-use Rattle.std.specs.Prelude.{◌≡◌, ◌≢◌, ◌⊎◌, ⊤, List, [], ◌∷◌, slice_get, Some}
-use Rattle.std.specs.List.{All}
+use Rattle.std.specs.Prelude.{◌≡◌, ◌⊎◌, ⊤, List, []}
 use Rattle.clap.specs.Words.{IsAmong, Text, fault_of, subcommand_of}
 use Rattle.clap.specs.declared.error.kind.ErrorKind.{ErrorKind}
 use Rattle.clap.specs.declared.error.kind.ErrorKind.TheVariants.{DisplayHelp, DisplayVersion}
 use Rattle.command_line.specs.rule.Met.{IsMet}
 use Rattle.command_line.specs.rule.Program.{program_app}
-use Rattle.command_line.specs.rule.Tasks.{Task, HasPlainWords, paths_of, plain_words_of}
+use Rattle.command_line.specs.rule.Tasks.{Task}
 use Rattle.command_line.specs.declared.refusal.Refusal.{Refusal}
 use Rattle.command_line.specs.declared.refusal.Refusal.TheVariants.{Help, Wrong, NotText, NoMemory}
 
--- the words are the program's name and the plain words of the task; a path, the name of a call or a word of places that begins with `-` is taken for an option
-pub record IsPlain (words : List Text) (task : Task) : Type 0 where
-  pub program : Text
-  pub words_are : words ≡ program ∷ plain_words_of task
-  pub no_option : All (λ path. slice_get path 0 ≢ Some 45) (paths_of task)
-  pub has_words : HasPlainWords task
-
--- by the program's table of arguments nothing is wrong with the words, and they are the command of the task, with its paths, its numbers, its flags, its format, the name of its call and the words that place processes
+-- by the program's table of arguments nothing is wrong with the words, and they are the command of the task, with its paths, its numbers and its flags
 pub record AsksFor (words : List Text) (task : Task) : Type 0 where
   pub taken : fault_of program_app words ≡ []
   pub met : IsMet (subcommand_of program_app words) task

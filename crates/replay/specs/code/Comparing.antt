@@ -2,7 +2,7 @@
 use Rattle.std.specs.Prelude.{◌≡◌, ℕ, Bool, true, false, List, Option, Some, None, string_bytes}
 use Rattle.std.specs.Option.{option_map}
 use Rattle.cluster_core.specs.rule.Journals.{JournalFields}
-use Rattle.explorer.specs.rule.Comparisons.{IsCompared}
+use Rattle.expectations.specs.rule.Comparisons.{IsCompared}
 use Rattle.player.specs.code.Parts.{state_of}
 use Rattle.lockscript.specs.rule.Scripts.{LineFields}
 use Rattle.replay.specs.declared.ran.Expecting.{Expecting}

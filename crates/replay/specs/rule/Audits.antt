@@ -9,13 +9,11 @@ use Rattle.journal_text.specs.rule.Readings.{WritesJournal}
 use Rattle.messages.specs.declared.entry.Entry.{Entry}
 use Rattle.messages.specs.rule.Shapes.{ShapeFields}
 use Rattle.messages.specs.declared.version.Version.TheVariants.{Second}
-use Rattle.diagnosis.specs.declared.wrong_entry.WrongEntry.{WrongEntry}
-use Rattle.diagnosis.specs.rule.WrongEntries.{IsWhyNoRun}
 use Rattle.lockscript.specs.rule.Listing.{history_text}
 use Rattle.replay.specs.declared.audit.Audited.{Audited}
 use Rattle.replay.specs.declared.audit.Audited.TheVariants.{Run, Wrong}
 use Rattle.replay.specs.declared.shown.Shown.{Shown}
-use Rattle.replay.specs.declared.shown.Shown.TheVariants.{Text, Wanting, Yes, No}
+use Rattle.replay.specs.declared.shown.Shown.TheVariants.{Text, Yes, No}
 use Rattle.replay.specs.rule.Stores.{HasText}
 
 -- the file writes a journal of these entries, whether they are a run or not
@@ -62,12 +60,6 @@ abbrev pub IsAudit : JournalFields → Shown → Type 0
 IsAudit j Yes = IsRun j.shape j.entries
 IsAudit j (No position) = IsFirstWrong j.shape j.entries position
 IsAudit j shown = ⊥
-
--- the same where it is told why they are none: this is the first wrong entry, and what the rule makes there; the words for it are only shown
-abbrev pub IsReasoned : JournalFields → Shown → Type 0
-IsReasoned j Yes = IsRun j.shape j.entries
-IsReasoned j (Wanting text) = (wrong : WrongEntry) × IsWhyNoRun j.shape j.entries wrong
-IsReasoned j shown = ⊥
 
 -- the text is the one history of the run
 abbrev pub IsHistoryText : JournalFields → List ℕ → Type 0

@@ -7,7 +7,7 @@ use Rattle.cluster_core.specs.rule.Histories.{HasHistory, EachAtItsPlace}
 use Rattle.cluster_core.specs.rule.Listings.{IsTokenListing, IsLockListing}
 use Rattle.cluster_core.specs.rule.Journals.{JournalFields}
 use Rattle.cluster_core.specs.rule.Safe.{IsSafe}
-use Rattle.explorer.specs.rule.Comparisons.{breaks_behind}
+use Rattle.expectations.specs.rule.Comparisons.{breaks_behind}
 use Rattle.lockscript.specs.rule.Listing.{listing_start, listing_text}
 use Rattle.lockscript.specs.rule.Scripts.{LineFields, ScriptFields, IsScript}
 use Rattle.lockscript.specs.rule.ShapedScripts.{IsForShape}

@@ -1,5 +1,5 @@
 -- What stores hold.
-use Rattle.std.specs.Prelude.{◌≢◌, ℕ, ⊤, ◌⊎◌, ◌↔◌, ◌++◌, List, IsUtf8, Option, Some, None}
+use Rattle.std.specs.Prelude.{◌≢◌, ℕ, ◌⊎◌, ◌↔◌, ◌++◌, List, IsUtf8, Option, Some, None}
 
 -- what a store tells of the file of each path: its bytes, or that it can't be read
 abbrev pub Files : Type 1
@@ -24,10 +24,6 @@ Adds old new bytes = (path text : List ℕ) → old path text → new path (text
 -- the file has text, and this holds of it; `Holds` says what bytes it has, or that it can't be read
 abbrev pub HasText : (Option (List ℕ) → Type 0) → (List ℕ → Type 0) → Type 0
 HasText Holds Is = (bytes : List ℕ) × Holds (Some bytes) × IsUtf8 bytes × Is bytes
-
--- the file of the path has any text
-abbrev pub HasTextAt : Files → List ℕ → Type 0
-HasTextAt old path = HasText (old path) (λ text. ⊤)
 
 -- the file can't be read, or not as text
 abbrev pub HasNoText : (Option (List ℕ) → Type 0) → Type 0

@@ -2,7 +2,7 @@
 use Rattle.std.specs.Prelude.{◌≡◌, ◌≢◌, ℕ, Bool, true, false, List, [], ◌++◌, length, codes, decimal, flat_map, string_bytes, Option}
 use Rattle.model.specs.declared.call.CallId.{CallId}
 use Rattle.thread_runs.specs.rule.Runs.{IsFullJournal, IsOfScript, ThreadRunFields}
-use Rattle.book.specs.code.Receipts as receipts
+use Rattle.book.specs.rule.Receipts as receipts
 use Rattle.cluster_core.specs.rule.Journals.{JournalFields}
 use Rattle.cluster_core.specs.rule.Runs.{Leads}
 use Rattle.cluster_core.specs.rule.World.{WorldState, first_world}

@@ -8,7 +8,7 @@ use Rattle.command_line.specs.declared.refusal.Refusal.{Refusal}
 use Rattle.command_line.specs.declared.refusal.Refusal.TheVariants.{Help, Wrong, NotText, NoMemory}
 use Rattle.command_line.specs.rule.Words.{IsShown}
 use Rattle.seat_commands.specs.declared.words.Asked.{Asked}
-use Rattle.seat_commands.specs.declared.words.Asked.TheVariants.{Seat, Members, Merge}
+use Rattle.seat_commands.specs.declared.words.Asked.TheVariants.{Seat, Members, Merge, Play}
 use Rattle.seat_commands.specs.rule.Lines.{IsAsked}
 use Rattle.seat_commands.specs.rule.Table.{IsTable}
 
@@ -16,6 +16,7 @@ abbrev pub name_of : Asked → Text
 name_of (Seat line) = codes "seat"
 name_of (Members line) = codes "members"
 name_of (Merge line) = codes "merge"
+name_of Play = codes "play"
 
 -- it is asked under this name, with these values
 abbrev pub IsNamed : Text → Found → Asked → Type 0

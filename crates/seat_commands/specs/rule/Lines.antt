@@ -15,7 +15,7 @@ use Rattle.seat_commands.specs.declared.actor_line.ActorLine.{ActorLine}
 use Rattle.seat_commands.specs.declared.members_line.MembersLine.{MembersLine}
 use Rattle.merging.specs.declared.merge_line.MergeLine.{MergeLine}
 use Rattle.seat_commands.specs.declared.words.Asked.{Asked}
-use Rattle.seat_commands.specs.declared.words.Asked.TheVariants.{Seat, Members, Merge}
+use Rattle.seat_commands.specs.declared.words.Asked.TheVariants.{Seat, Members, Merge, Play}
 
 -- the flag is given, or it is not
 pub record HasFlag (text : Option (List ℕ)) (flag : Bool) : Type 0 where
@@ -75,3 +75,4 @@ abbrev pub IsAsked : Found → Asked → Type 0
 IsAsked f (Seat line) = IsActorLine f line
 IsAsked f (Members line) = IsMembersLine f line
 IsAsked f (Merge line) = IsMergeLine f line × HasLogs f (map (λ path. path.now) line.logs.items)
+IsAsked f Play = ⊤

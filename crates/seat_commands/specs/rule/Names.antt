@@ -5,7 +5,7 @@ use Rattle.std.specs.List.{list_any}
 
 -- the names of the commands
 abbrev pub names : List (List ℕ)
-names = codes "seat" ∷ codes "members" ∷ codes "merge" ∷ []
+names = codes "seat" ∷ codes "members" ∷ codes "merge" ∷ codes "play" ∷ []
 
 -- whether a command has the name
 abbrev pub is_name : List ℕ → Bool

@@ -76,9 +76,12 @@ abbrev pub merge_app : App
 merge_app =
     with_rule (with_rule (with_rule (with_rule (with_rule (new_app (codes "merge")) (paths_rule (codes "LOG"))) (option_rule (codes "JOURNAL") (codes "journal"))) (option_rule (codes "MEMBERS") (codes "members"))) (flag_rule (codes "check"))) skew_rule
 
+abbrev pub play_app : App
+play_app = new_app (codes "play")
+
 abbrev pub bare_app : App
 bare_app = on_top (λ s. record s { subcommand_required = true }) (new_app (codes "lockreplay"))
 
 -- the table of the commands
 abbrev pub IsTable : App → Type 0
-IsTable app = (seat : App) × IsSeatApp seat × (app ≡ with_subcommand (with_subcommand (with_subcommand bare_app seat.top) members_app.top) merge_app.top)
+IsTable app = (seat : App) × IsSeatApp seat × (app ≡ with_subcommand (with_subcommand (with_subcommand (with_subcommand bare_app seat.top) members_app.top) merge_app.top) play_app.top)

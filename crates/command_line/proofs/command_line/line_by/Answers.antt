@@ -4,8 +4,7 @@ use Rattle.clap.specs.Words.{App, HasKind, Row, Text, fault_of, is_simple, is_si
 use Rattle.command_line.specs.rule.Kinds.{IsLineOf}
 use Rattle.command_line.specs.rule.Met.{IsMet}
 use Rattle.command_line.specs.rule.Tasks.{task_of}
-use Rattle.command_line.proofs.CommandLine.{fails_so, not_shown}
-use Rattle.command_line.proofs.PlainWords.{is_free_program, is_simple_program}
+use Rattle.command_line.proofs.CommandLine.{fails_so, is_free_program, is_simple_program, not_shown}
 use Rattle.command_line.proofs.command_line.line_by.Goals as goal
 
 pub returns-in_err-matches-clause-kind : goal.returns-in_err-matches-clause-kind

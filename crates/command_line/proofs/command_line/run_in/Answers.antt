@@ -1,6 +1,6 @@
 use Rattle.std.proofs.Common.{rules, codes, None, Some, [], ◌∷◌, ◌≡◌}
 use Rattle.clap.specs.Words.{found_of, rows_of}
-use Rattle.command_line.proofs.Unmet.{no_calm_flag, no_expect_flag, no_form, no_quiet, no_run_flag, no_script}
+use Rattle.command_line.proofs.Unmet.{no_calm_flag, no_expect_flag, no_quiet, no_quiet_flag, no_script}
 use Rattle.command_line.proofs.Tables.{no_value, same_value, value_is}
 use Rattle.command_line.proofs.command_line.run_in.Goals as goal
 
@@ -15,15 +15,10 @@ returns-in_err-expect c =
     let none : c.from_residual-in_err-expect.result ≡ None = search rules in
     rw none (no_expect_flag (rows_of (found_of c.args.values.now)) c.in_err-expect.ensures)
 
-pub returns-in_err-open : goal.returns-in_err-open
-returns-in_err-open c =
-    let none : c.from_residual-in_err-open.result ≡ None = search rules in
-    rw none (no_run_flag (rows_of (found_of c.args.values.now)) c.in_err-open.ensures)
-
-pub returns-in_err-form : goal.returns-in_err-form
-returns-in_err-form c =
-    let none : c.from_residual-in_err-form.result ≡ None = search rules in
-    rw none (no_form (rows_of (found_of c.args.values.now)) c.in_err-form.ensures)
+pub returns-in_err-quiet : goal.returns-in_err-quiet
+returns-in_err-quiet c =
+    let none : c.from_residual-in_err-quiet.result ≡ None = search rules in
+    rw none (no_quiet_flag (rows_of (found_of c.args.values.now)) c.in_err-quiet.ensures)
 
 pub returns-in_err-calm : goal.returns-in_err-calm
 returns-in_err-calm c =
@@ -34,7 +29,7 @@ pub returns-then-not-may_be_quiet : goal.returns-then-not-may_be_quiet
 returns-then-not-may_be_quiet c =
     let found = found_of c.args.values.now in
     let file = same_value found (codes "FILE") c.get_str-journal.result c.get_str-journal.ensures in
-    no_quiet (rows_of found) _ c.in_ok-expect.expect c.in_ok-form.form file c.in_ok-expect.ensures c.in_ok-form.ensures.0 c.in_ok-form.ensures.1 (c.may_be_quiet.ensures.may_not (search rules))
+    no_quiet (rows_of found) _ c.in_ok-expect.expect c.in_ok-quiet.quiet file c.in_ok-expect.ensures c.in_ok-quiet.ensures (c.may_be_quiet.ensures.may_not (search rules))
 
 pub returns : goal.returns
 returns c =
@@ -43,8 +38,6 @@ returns c =
     let after = same_value found (codes "JOURNAL") c.get_str-after.result c.get_str-after.ensures in
     let journal = same_value found (codes "FILE") c.get_str-journal.result c.get_str-journal.ensures in
     let expected = c.in_ok-expect.ensures in
-    let listed = c.in_ok-open.ensures in
-    let quiet = c.in_ok-form.ensures.0 in
-    let json = c.in_ok-form.ensures.1 in
+    let quiet = c.in_ok-quiet.ensures in
     let calm = c.in_ok-calm.ensures in
-    ((λ i. Some (codes "run", script i ∷ after i ∷ journal i ∷ expected i ∷ listed i ∷ quiet i ∷ calm i ∷ json i ∷ [])), c.may_be_quiet.ensures.may (search rules))
+    ((λ i. Some (codes "run", script i ∷ after i ∷ journal i ∷ expected i ∷ quiet i ∷ calm i ∷ [])), c.may_be_quiet.ensures.may (search rules))

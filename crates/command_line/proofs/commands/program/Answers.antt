@@ -4,4 +4,4 @@ use Rattle.clap.specs.Words.{with_subcommand}
 use Rattle.command_line.proofs.commands.program.Goals as goal
 
 pub returns : goal.returns
-returns c = IfOk-weaker c.with_commands.result _ _ (λ r is. is ∙ (λ i. with_subcommand (with_subcommand (with_subcommand (with_subcommand (with_subcommand (with_subcommand (with_subcommand (with_subcommand (with_subcommand (with_subcommand (with_subcommand (with_subcommand (with_subcommand (with_subcommand (c.bare_program.ensures i) (c.run_command.ensures i).top) (c.threads_command.ensures i).top) (c.audit_command.ensures i).top) (c.history_command.ensures i).top) (c.explain_command.ensures i).top) (c.open_command.ensures i).top) (c.state_command.ensures i).top) (c.check_command.ensures i).top) (c.picture_command.ensures i).top) (c.stats_command.ensures i).top) (c.strace_command.ensures i).top) (c.explore_command.ensures i).top) (c.schedule_command.ensures i).top) (c.judge_command.ensures i).top)) c.with_commands.ensures
+returns c = IfOk-weaker c.with_commands.result _ _ (λ r is. is ∙ (λ i. with_subcommand (with_subcommand (with_subcommand (with_subcommand (with_subcommand (with_subcommand (c.bare_program.ensures i) (c.run_command.ensures i).top) (c.threads_command.ensures i).top) (c.audit_command.ensures i).top) (c.history_command.ensures i).top) (c.state_command.ensures i).top) (c.judge_command.ensures i).top)) c.with_commands.ensures

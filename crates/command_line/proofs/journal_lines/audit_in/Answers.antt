@@ -1,6 +1,6 @@
 use Rattle.std.proofs.Common.{rules, codes, None, Some, [], ◌∷◌, ◌≡◌}
 use Rattle.clap.specs.Words.{found_of, rows_of}
-use Rattle.command_line.proofs.Unmet.{no_audit, no_why_flag}
+use Rattle.command_line.proofs.Unmet.{no_audit}
 use Rattle.command_line.proofs.Tables.{no_value, value_is}
 use Rattle.command_line.proofs.journal_lines.audit_in.Goals as goal
 
@@ -10,13 +10,7 @@ returns-in_err-journal c =
     let found = found_of c.args.values.now in
     rw none (no_audit (rows_of found) (no_value found (codes "JOURNAL") c.get_str.result c.get_str.ensures (search rules)))
 
-pub returns-in_err-why : goal.returns-in_err-why
-returns-in_err-why c =
-    let none : c.from_residual-in_err-why.result ≡ None = search rules in
-    rw none (no_why_flag (rows_of (found_of c.args.values.now)) c.in_err-why.ensures)
-
 pub returns : goal.returns
 returns c =
     let journal = value_is (found_of c.args.values.now) (codes "JOURNAL") c.get_str.result c.in_ok-journal.journal c.get_str.ensures (search rules) in
-    let why = c.in_ok-why.ensures in
-    λ i. Some (codes "audit", journal i ∷ why i ∷ [])
+    λ i. Some (codes "audit", journal i ∷ [])

@@ -1,6 +1,6 @@
 use Rattle.std.proofs.Common.{rules, codes, None, Some, [], ◌∷◌, ◌≡◌}
 use Rattle.clap.specs.Words.{found_of, one_of, rows_of}
-use Rattle.command_line.proofs.Unmet.{no_at, no_lock_file, no_node, no_state, no_state_json}
+use Rattle.command_line.proofs.Unmet.{no_at, no_state}
 use Rattle.command_line.proofs.Tables.{no_value, value_is}
 use Rattle.command_line.proofs.journal_lines.state_in.Goals as goal
 
@@ -15,25 +15,9 @@ returns-in_err-at c =
     let none : c.from_residual-in_err-at.result ≡ None = search rules in
     rw none (no_at (rows_of (found_of c.args.values.now)) c.in_err-at.ensures)
 
-pub returns-in_err-node : goal.returns-in_err-node
-returns-in_err-node c =
-    let none : c.from_residual-in_err-node.result ≡ None = search rules in
-    rw none (no_node (rows_of (found_of c.args.values.now)) c.in_err-node.ensures)
-
-pub returns-in_err-file : goal.returns-in_err-file
-returns-in_err-file c =
-    let none : c.from_residual-in_err-file.result ≡ None = search rules in
-    rw none (no_lock_file (rows_of (found_of c.args.values.now)) c.in_err-file.ensures)
-
-pub returns-in_err-json : goal.returns-in_err-json
-returns-in_err-json c =
-    let none : c.from_residual-in_err-json.result ≡ None = search rules in
-    rw none (no_state_json (rows_of (found_of c.args.values.now)) c.in_err-json.ensures)
-
 pub returns : goal.returns
 returns c =
     let found = found_of c.args.values.now in
     let rows = rows_of found in
     let journal = value_is found (codes "JOURNAL") c.get_str.result c.in_ok-journal.journal c.get_str.ensures (search rules) in
-    let json = c.in_ok-json.ensures in
-    (one_of (codes "K") rows, one_of (codes "N") rows, one_of (codes "F") rows, (λ i. Some (codes "state", journal i ∷ one_of (codes "K") rows ∷ one_of (codes "N") rows ∷ one_of (codes "F") rows ∷ json i ∷ [])), c.in_ok-at.ensures, c.in_ok-node.ensures, c.in_ok-file.ensures)
+    (one_of (codes "K") rows, (λ i. Some (codes "state", journal i ∷ one_of (codes "K") rows ∷ [])), c.in_ok-at.ensures)

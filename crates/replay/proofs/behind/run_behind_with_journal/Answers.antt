@@ -17,8 +17,8 @@ returns-clause-done g c =
     let is = c.in_ok-committed.ensures.made in
     let journal = c.in_ok-committed.ensures.written _ (IfOk-at_ok _ is made.journal path [] c.begin-draft.ensures.empty) in
     let went = behind.2.1 in
-    let shown = c.shown_beside.ensures _ went.0 c.args.wanted.open c.args.wanted.form went.2 (IfOk-at_ok _ is made.shown) in
-    (behind.0, behind.1, goes-on (holds c.args.store.now) (holds c.committed.new.store) c.args.path.now behind.0 (Some path) c.args.wanted.expect c.args.wanted.open c.args.wanted.form c.args.wanted.calm _ behind.2.0 (_, went.0, went.1, shown, (journal, others), IfOk-at_ok _ is made.read))
+    let shown = c.shown_beside.ensures _ went.0 c.args.wanted.quiet went.2 (IfOk-at_ok _ is made.shown) in
+    (behind.0, behind.1, goes-on (holds c.args.store.now) (holds c.committed.new.store) c.args.path.now behind.0 (Some path) c.args.wanted.expect c.args.wanted.quiet c.args.wanted.calm _ behind.2.0 (_, went.0, went.1, shown, (journal, others), IfOk-at_ok _ is made.read))
 
 pub returns-in_err-committed-clause-fault : goal.returns-in_err-committed-clause-fault
 returns-in_err-committed-clause-fault g c =
@@ -28,5 +28,5 @@ returns-in_err-committed-clause-fault g c =
     let files = same-after (holds c.args.store.now) (holds c.played_behind.new.store) (holds c.begin-draft.new.self) c.played_behind.ensures.files c.begin-draft.ensures.files in
     let went = behind.2.1 in
     let has = uncompared-behind (holds c.args.store.now c.args.path.now) behind.0 c.args.wanted.expect c.args.wanted.calm went.0 _ went.1 in
-    let task = run c.args.path.now (Some c.args.after.now) (Some c.args.file.now) c.args.wanted.expect c.args.wanted.open c.args.wanted.form c.args.wanted.calm in
+    let task = run c.args.path.now (Some c.args.after.now) (Some c.args.file.now) c.args.wanted.expect c.args.wanted.quiet c.args.wanted.calm in
     rw (p.1, p.2) (journal_fault (holds c.args.store.now) (holds c.begin-draft.new.self) (holds c.committed.new.store) _ _ task c.args.file.now _ files refl (behind.0, behind.1, has) (inl (inr (behind.0, behind.1))) c.in_err-committed.ensures.fault)

@@ -1,5 +1,5 @@
 use Rattle.std.proofs.Common.{arith, sym, subst, ℕ, ◌+◌, take}
-use Rattle.book.specs.code.Receipts.{Holds}
+use Rattle.book.specs.rule.Receipts.{Holds}
 use Rattle.replay.specs.rule.Counts.{IsCount}
 use Rattle.replay.proofs.Counting.{one_more_taken, no_more_taken}
 use Rattle.replay.proofs.held_receipts.held_in.Goals.{then-holds, else-holds}

@@ -1,6 +1,6 @@
 -- The receipts before this one are counted.
 use Rattle.std.proofs.Common.{◌≤◌, take}
-use Rattle.book.specs.code.Receipts.{Holds}
+use Rattle.book.specs.rule.Receipts.{Holds}
 use Rattle.replay.specs.rule.Counts.{IsCount}
 use Rattle.replay.proofs.held_receipts.held_in.Given as goal
 

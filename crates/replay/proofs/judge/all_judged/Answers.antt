@@ -1,5 +1,4 @@
 use Rattle.std.proofs.Common.{◌≡◌, arith, get_or, inl, map}
-use Rattle.std.specs.Prelude.{⊤}
 use Rattle.std.proofs.lemmas.List.{length-map}
 use Rattle.std.proofs.lemmas.Result.{err_from_is_err_and}
 use Rattle.replay.proofs.Judging.{judged-all, so-far-more}
@@ -14,7 +13,7 @@ returns-in_err-judgement-clause-fault g c =
     let paths = c.args.paths.now in
     let i = c.loop-path.path-index in
     let lt = c.loop-path-test.true in
-    rw (p.1, p.2) (tool-weaker (holds c.args.store.now) (holds c.loop-path.store) (λ file. file ≡ now_of (get_or paths i nothing)) _ ⊤ ⊤ _ c.loop-path.invariant.same (λ file is. inl (among paths i file lt is)) (λ told. told) c.in_err-judgement.ensures.fault)
+    rw (p.1, p.2) (tool-weaker (holds c.args.store.now) (holds c.loop-path.store) (λ file. file ≡ now_of (get_or paths i nothing)) _ _ c.loop-path.invariant.same (λ file is. inl (among paths i file lt is)) c.in_err-judgement.ensures.fault)
 
 pub loop-path-preserved : goal.loop-path-preserved
 loop-path-preserved g c =

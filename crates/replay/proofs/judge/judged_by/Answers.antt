@@ -1,5 +1,4 @@
 use Rattle.std.proofs.Common.{inr, map, refl, Some}
-use Rattle.std.specs.Prelude.{⊤}
 use Rattle.std.proofs.lemmas.Result.{IfErr-weaker, IfOk-weaker, err_from_is_err_and}
 use Rattle.replay.specs.rule.Judging.{IsJudgedWith}
 use Rattle.replay.proofs.Judging.{had-judged}
@@ -9,7 +8,7 @@ use Rattle.replay.proofs.judge.judged_by.Goals as goal
 pub returns-in_err-text-clause-fault : goal.returns-in_err-text-clause-fault
 returns-in_err-text-clause-fault g c =
     let p = err_from_is_err_and c.from_residual.result c.from_residual.ensures.1 in
-    rw (p.1, p.2) (textless (g.S.Store.holds c.args.store.now) _ c.args.orders.now (IsJudgedWith (map (λ path. path.now) c.args.paths.now) (Some c.args.orders.now)) ⊤ _ (inr refl) c.in_err-text.ensures.fault)
+    rw (p.1, p.2) (textless (g.S.Store.holds c.args.store.now) _ c.args.orders.now (IsJudgedWith (map (λ path. path.now) c.args.paths.now) (Some c.args.orders.now)) _ (inr refl) c.in_err-text.ensures.fault)
 
 pub returns-clause-done : goal.returns-clause-done
 returns-clause-done g c =
@@ -21,4 +20,4 @@ returns-clause-done g c =
 pub returns-clause-fault : goal.returns-clause-fault
 returns-clause-fault g c =
     let holds = g.S.Store.holds in
-    IfErr-weaker c.all_judged.result _ _ (λ fault is. tool-weaker (holds c.args.store.now) (holds c.text_of.new.store) _ _ ⊤ ⊤ fault c.text_of.ensures.files (λ path reads. reads) (λ told. told) is) c.all_judged.ensures.fault
+    IfErr-weaker c.all_judged.result _ _ (λ fault is. tool-weaker (holds c.args.store.now) (holds c.text_of.new.store) _ _ fault c.text_of.ensures.files (λ path reads. reads) is) c.all_judged.ensures.fault

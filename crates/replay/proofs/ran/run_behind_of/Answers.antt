@@ -2,9 +2,9 @@ use Rattle.std.proofs.Common.{ℕ, List, ap, inr, length, subst}
 use Rattle.std.specs.Prelude.{◌&&◌, ◌||◌, is_some, string_bytes}
 use Rattle.std.proofs.lemmas.Result.{err_from_is_err_and}
 use Rattle.std.proofs.lemmas.Str.{IsUtf8-string_bytes}
-use Rattle.explorer.specs.rule.Comparisons.{breaks_behind}
+use Rattle.expectations.specs.rule.Comparisons.{breaks_behind}
 use Rattle.lockscript.specs.rule.ShapedScripts.{IsForShape}
-use Rattle.messages.specs.code.Entries.{EntryFields}
+use Rattle.messages.specs.rule.Entries.{EntryFields}
 use Rattle.messages.specs.rule.Shapes.{ShapeFields}
 use Rattle.player.specs.code.Parts.{state_of}
 use Rattle.replay.proofs.ran.run_behind_of.Goals as goal

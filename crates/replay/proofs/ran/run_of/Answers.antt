@@ -1,7 +1,7 @@
 use Rattle.std.proofs.Common.{ℕ, List, refl, subst}
 use Rattle.std.specs.Prelude.{◌&&◌, ◌||◌, is_some, string_bytes}
 use Rattle.std.proofs.lemmas.Str.{IsUtf8-string_bytes}
-use Rattle.explorer.specs.rule.Comparisons.{breaks_behind}
+use Rattle.expectations.specs.rule.Comparisons.{breaks_behind}
 use Rattle.lockscript.specs.rule.Scripts.{IsScript}
 use Rattle.player.specs.code.Parts.{state_of}
 use Rattle.replay.proofs.ran.run_of.Goals as goal

@@ -3,10 +3,10 @@ use Rattle.std.specs.Global.{Global}
 use Rattle.std.specs.Option.{option_map}
 use Rattle.std.specs.Prelude.{◌&&◌, string_bytes}
 use Rattle.std.proofs.lemmas.Result.{IfOk-weaker}
-use Rattle.explorer.specs.rule.Comparisons.{breaks_in_run, IsCompared}
+use Rattle.expectations.specs.rule.Comparisons.{breaks_in_run, IsCompared}
 use Rattle.lockscript.specs.declared.refused_line.RefusedLine.{RefusedLine}
 use Rattle.lockscript.specs.rule.Scripts.{LineFields}
-use Rattle.messages.specs.code.Entries.{EntryFields}
+use Rattle.messages.specs.rule.Entries.{EntryFields}
 use Rattle.cluster_core.specs.rule.Journals.{JournalFields}
 use Rattle.replay.proofs.ran.told_of.Goals as goal
 

@@ -9,7 +9,7 @@ use Rattle.replay.specs.rule.Commands.{Does, IsFaultOrShort, Leaves, Shows, Tell
 use Rattle.replay.specs.rule.Faults.{fault_line}
 use Rattle.replay.specs.rule.Outputs.{AppendsPart, WritesOrFails}
 use Rattle.replay.specs.rule.Showing.{TellsBeside}
-use Rattle.replay.specs.code.Refusals.{IsHelp, refusal_status, refusal_text}
+use Rattle.replay.specs.rule.Refusals.{IsHelp, refusal_status, refusal_text}
 use Rattle.replay.proofs.Refused.{refused-short, refused-unshown, short-leaves}
 use Rattle.replay.proofs.Stores.{same, same-unless}
 use Rattle.replay.proofs.respond.respond.Goals as goal
@@ -76,12 +76,6 @@ returns-in-Err-clause-short g c = λ four.
     let T : List ℕ → Type 0 = λ t. WritesOrFails (g.E.Output.taken c.args.err.now) (g.E.Output.taken c.refuse.new.err) (g.E.Output.has_failed c.refuse.new.err) t in
     let told = refused-short words c.in-Err.refusal c.refuse.result (Appends (taken c.args.out.now) (taken c.refuse.new.out) text) (g.O.Output.is_flushed c.refuse.new.out) (c.refuse.new.err ≡ c.args.err.now) (AppendsPart (taken c.args.out.now) (taken c.refuse.new.out) text) (g.O.Output.has_failed c.refuse.new.out) (T (fault_line CannotWriteOutput)) (c.refuse.new.out ≡ c.args.out.now) T c.in-Err.ensures.refused c.refuse.ensures.help c.refuse.ensures.refused four in
     (told.0, inr told.1)
-
-pub returns-in-Ok-clause-quiet : goal.returns-in-Ok-clause-quiet
-returns-in-Ok-clause-quiet g c = λ zero. elim (c.perform.ensures.quiet zero) [
-  | inl same ↦ inl same
-  | inr is ↦ inr (task_of c.in-Ok.line, c.in-Ok.ensures.asked, is)
-]
 
 pub returns-in-Ok-clause-undecided : goal.returns-in-Ok-clause-undecided
 returns-in-Ok-clause-undecided g c = λ five.

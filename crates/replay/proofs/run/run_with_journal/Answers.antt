@@ -17,7 +17,7 @@ returns-clause-done g c =
     let came = c.in_ok-played.ensures.run in
     let text = IfOk-at_ok _ is made.shown in
     let journal = c.in_ok-committed.ensures.written _ (IfOk-at_ok _ is made.journal path [] c.begin-draft.ensures.empty) in
-    (_, came.0, came.1, c.shown_beside.ensures _ came.0 c.args.wanted.open c.args.wanted.form came.2 text, (journal, others), IfOk-at_ok _ is made.read)
+    (_, came.0, came.1, c.shown_beside.ensures _ came.0 c.args.wanted.quiet came.2 text, (journal, others), IfOk-at_ok _ is made.read)
 
 pub returns-in_err-committed-clause-fault : goal.returns-in_err-committed-clause-fault
 returns-in_err-committed-clause-fault g c =
@@ -26,5 +26,5 @@ returns-in_err-committed-clause-fault g c =
     let files = same-after (holds c.args.store.now) (holds c.run_of.new.store) (holds c.begin-draft.new.self) c.run_of.ensures.files c.begin-draft.ensures.files in
     let came = c.in_ok-played.ensures.run in
     let has = uncompared (holds c.args.store.now c.args.path.now) c.args.wanted.expect c.args.wanted.calm came.0 _ came.1 in
-    let task = run c.args.path.now None (Some c.args.file.now) c.args.wanted.expect c.args.wanted.open c.args.wanted.form c.args.wanted.calm in
+    let task = run c.args.path.now None (Some c.args.file.now) c.args.wanted.expect c.args.wanted.quiet c.args.wanted.calm in
     rw (p.1, p.2) (journal_fault (holds c.args.store.now) (holds c.begin-draft.new.self) (holds c.committed.new.store) _ _ task c.args.file.now _ files refl has (inr (has.1.0, has.1.1)) c.in_err-committed.ensures.fault)

@@ -1,10 +1,15 @@
 use Rattle.std.proofs.Common.{◌≡◌, ◌∙◌, ℕ, All, ap, arith, get_or, inl, inr, map, refl, subst, sym}
 use Rattle.std.proofs.lemmas.Bool.{cases_lt}
 use Rattle.std.proofs.lemmas.Option.{get_or_from_slice_get, slice_get_read}
+use Rattle.node_core.specs.declared.open_call.OpenCall.{OpenCall}
 use Rattle.cluster_core.specs.rule.Parts.{world_state}
-use Rattle.states.specs.rule.OpenCalls.{IsOpenState, key_of}
+use Rattle.states.specs.declared.open_call.OpenState.{OpenState}
+use Rattle.states.specs.rule.OpenCalls.{IsOpenState}
 use Rattle.replay.proofs.NoneStuck.{IsExcused, all_excused}
 use Rattle.replay.proofs.unstuck.is_none_stuck.Goals as goal
+
+abbrev asked_of : OpenState → OpenCall
+asked_of o = o.asked
 
 pub is_stuck-requires : goal.is_stuck-requires
 is_stuck-requires c =
@@ -31,4 +36,4 @@ pub returns : goal.returns
 returns c = λ yes.
     let told = c.deref-told-items.result.now in
     let past = c.loop-told-test.false in
-    all_excused (world_state c.args.world.now) told c.requires (ap (map key_of) c.deref-told-items.ensures.value ∙ c.in_ok-states.ensures.calls) (λ k d lt. c.loop-told.invariant k d (omega (arith, lt, past)))
+    all_excused (world_state c.args.world.now) told c.requires (ap (map asked_of) c.deref-told-items.ensures.value ∙ c.in_ok-states.ensures.calls) (λ k d lt. c.loop-told.invariant k d (omega (arith, lt, past)))

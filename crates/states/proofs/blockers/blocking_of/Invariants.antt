@@ -1,5 +1,5 @@
 use Rattle.std.proofs.Common.{◌≡◌, ◌++◌, drop}
-use Rattle.states.specs.code.Lists.{blocking_of}
+use Rattle.states.specs.code.Blockers.{blocking_of}
 use Rattle.states.proofs.blockers.blocking_of.Given as goal
 
 abbrev pub invariant-loop-held : goal.invariant-loop-held

@@ -4,8 +4,8 @@ use Rattle.messages.specs.rule.Shapes.{most_files}
 use Rattle.token_server.specs.code.Readers.{nodes_where}
 use Rattle.token_server.proofs.ReaderLaws.{nodes_where-missing}
 use Rattle.cluster_core.specs.rule.Parts.{world_state}
+use Rattle.cluster_core.specs.rule.World.{has_file}
 use Rattle.states.specs.declared.told_server.ToldEpoch.{ToldEpoch}
-use Rattle.states.specs.rule.Choices.{tells_file}
 use Rattle.states.specs.rule.States.{told_epoch}
 use Rattle.states.proofs.ToldLaws.{values-more}
 use Rattle.states.proofs.cluster_state.epochs.Goals.{in-Some+in_ok-push, in_default}
@@ -16,7 +16,7 @@ loop-place-preserved c =
     let i = c.loop-place.place in
     let w = world_state c.args.world.now in
     let epochs = c.loop-place.epochs.items in
-    let passes : ℕ → Bool = tells_file w c.args.chosen in
+    let passes : ℕ → Bool = has_file w in
     let next : 1 + i ≡ i + 1 = omega arith in
     let P : Option ToldEpoch → Type 0 = λ o. MatchOption o (passes (i + 1) ≡ false) (λ e. (passes (i + 1) ≡ true) × (e ≡ told_epoch w (i + 1))) in
     elim c.match-epoch_of.branch [
@@ -32,4 +32,4 @@ pub returns : goal.returns
 returns c =
     let w = world_state c.args.world.now in
     let last : c.loop-place.place ≡ most_files = omega (arith, c.loop-place-test.false, c.loop-place.auto.place-end) in
-    c.loop-place.invariant ∙ ap (λ (n : ℕ). map (told_epoch w) (nodes_where (tells_file w c.args.chosen) n)) last
+    c.loop-place.invariant ∙ ap (λ (n : ℕ). map (told_epoch w) (nodes_where (has_file w) n)) last

@@ -7,8 +7,7 @@ use Rattle.token_server.specs.code.Readers.{nodes_where}
 use Rattle.token_server.proofs.ReaderLaws.{nodes_where-missing}
 use Rattle.cluster_core.specs.rule.Parts.{world_state}
 use Rattle.states.specs.declared.told_server.ToldServer.{ToldServer}
-use Rattle.states.specs.rule.Choices.{tells_server}
-use Rattle.states.specs.rule.States.{IsToldServer}
+use Rattle.states.specs.rule.States.{works, IsToldServer}
 use Rattle.states.proofs.ToldLaws.{numbers-more, server-at}
 use Rattle.states.proofs.cluster_state.servers.Goals.{in-Some+in_ok-of+in_ok-push, in_default}
 use Rattle.states.proofs.cluster_state.servers.Goals as goal
@@ -17,11 +16,10 @@ pub loop-place-preserved : goal.loop-place-preserved
 loop-place-preserved c =
     let i = c.loop-place.place in
     let w = world_state c.args.world.now in
-    let chosen = c.args.chosen in
     let servers = c.loop-place.servers.items in
-    let passes : ℕ → Bool = tells_server w chosen in
+    let passes : ℕ → Bool = works w in
     let number : ToldServer → ℕ = λ s. s.file in
-    let Is : ToldServer → Type 0 = λ s. IsToldServer (w.servers s.file) chosen s in
+    let Is : ToldServer → Type 0 = λ s. IsToldServer (w.servers s.file) s in
     let next : 1 + i ≡ i + 1 = omega arith in
     elim c.match-server_of.branch [
       | in-Some+in_ok-of+in_ok-push q ↦
@@ -31,7 +29,7 @@ loop-place-preserved c =
           let is : t.file ≡ i + 1 = q.in_ok-of.ensures.file ∙ q.of.ensures in
           rw q.servers-is (record {
             files = ap (map number) pushed ∙ numbers-more number passes i (i + 1) servers t next found.0 is c.loop-place.invariant.files;
-            each = subst (All Is) (sym pushed) (All-push Is servers t c.loop-place.invariant.each (server-at w chosen (server_state q.in-Some.server.now) t (i + 1) found.1 is q.in_ok-of.ensures.told));
+            each = subst (All Is) (sym pushed) (All-push Is servers t c.loop-place.invariant.each (server-at w (server_state q.in-Some.server.now) t (i + 1) found.1 is q.in_ok-of.ensures.told));
           })
       | in_default q ↦
           let gone : passes (i + 1) ≡ false = q.in_default.ensures in
@@ -44,4 +42,4 @@ loop-place-preserved c =
 pub returns-clause-files : goal.returns-clause-files
 returns-clause-files c =
     let last : c.loop-place.place ≡ most_files = omega (arith, c.loop-place-test.false, c.loop-place.auto.place-end) in
-    c.loop-place.invariant.files ∙ ap (nodes_where (tells_server (world_state c.args.world.now) c.args.chosen)) last
+    c.loop-place.invariant.files ∙ ap (nodes_where (works (world_state c.args.world.now))) last

@@ -5,10 +5,9 @@ use Rattle.token_server.specs.rule.Parts.{server_state}
 use Rattle.token_server.specs.code.Readers.{nodes_where}
 use Rattle.token_server.proofs.ReaderLaws.{nodes_where-missing}
 use Rattle.states.specs.declared.told_server.KnownDead.{KnownDead}
-use Rattle.states.specs.rule.Choices.{tells_dead}
-use Rattle.states.specs.rule.States.{known_dead}
+use Rattle.states.specs.rule.States.{known_dead, knows_dead}
 use Rattle.states.proofs.ToldLaws.{values-more}
-use Rattle.states.proofs.told_server.dead.Goals.{then-tells_dead+in_ok-push, else-tells_dead}
+use Rattle.states.proofs.told_server.dead.Goals.{then-knows_dead+in_ok-push, else-knows_dead}
 use Rattle.states.proofs.told_server.dead.Goals as goal
 
 pub loop-place-preserved : goal.loop-place-preserved
@@ -16,19 +15,19 @@ loop-place-preserved c =
     let i = c.loop-place.place in
     let s = server_state c.args.server.now in
     let dead = c.loop-place.dead.items in
-    let passes : ℕ → Bool = tells_dead s c.args.chosen in
+    let passes : ℕ → Bool = knows_dead s in
     let next : 1 + i ≡ i + 1 = omega arith in
     let known : ℕ → KnownDead = λ k. record { node = i + 1; incarnation = k } in
-    elim c.if-tells_dead.branch [
-      | then-tells_dead+in_ok-push q ↦
-          let there : passes (i + 1) ≡ true = sym c.tells_dead.ensures ∙ q.if-tells_dead.true in
+    elim c.if-knows_dead.branch [
+      | then-knows_dead+in_ok-push q ↦
+          let there : passes (i + 1) ≡ true = sym c.knows_dead.ensures ∙ q.if-knows_dead.true in
           rw q.dead-is (
           q.in_ok-push.ensures.items
           ∙ ap (λ (k : ℕ). dead ++ known k ∷ []) q.dead-incarnation.ensures
           ∙ values-more (known_dead s) passes i (i + 1) dead next there c.loop-place.invariant
           )
-      | else-tells_dead q ↦
-          let gone : passes (i + 1) ≡ false = sym c.tells_dead.ensures ∙ q.if-tells_dead.false in
+      | else-knows_dead q ↦
+          let gone : passes (i + 1) ≡ false = sym c.knows_dead.ensures ∙ q.if-knows_dead.false in
           rw q.dead-is (c.loop-place.invariant ∙ ap (map (known_dead s)) (sym (nodes_where-missing passes i (i + 1) next gone)))
     ]
 
@@ -36,4 +35,4 @@ pub returns : goal.returns
 returns c =
     let s = server_state c.args.server.now in
     let last : c.loop-place.place ≡ most_nodes = omega (arith, c.loop-place-test.false, c.loop-place.auto.place-end) in
-    c.loop-place.invariant ∙ ap (λ (n : ℕ). map (known_dead s) (nodes_where (tells_dead s c.args.chosen) n)) last
+    c.loop-place.invariant ∙ ap (λ (n : ℕ). map (known_dead s) (nodes_where (knows_dead s) n)) last

@@ -1,3 +1,0 @@
-pub mod Adding
-pub mod Pushed
-pub mod Totals

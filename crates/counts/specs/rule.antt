@@ -1,4 +1,0 @@
-pub mod Sums
-pub mod Kinds
-pub mod Touches
-pub mod Calls

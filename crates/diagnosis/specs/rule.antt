@@ -1,4 +1,0 @@
-pub mod BadLines
-pub mod Reports
-pub mod JournalReports
-pub mod WrongEntries

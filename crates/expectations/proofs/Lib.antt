@@ -1,0 +1,3 @@
+mod Puts
+mod Walks
+mod Words

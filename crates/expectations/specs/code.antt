@@ -1,0 +1,2 @@
+pub mod ByProcess
+pub mod Indexes

@@ -1,5 +1,0 @@
-use Rattle.explorer.proofs.Words.{split-told}
-use Rattle.explorer.proofs.script_reader.split_feed.Goals as goal
-
-pub returns : goal.returns
-returns c = split-told c.args.text.now c.split_line.result c.split_line.ensures

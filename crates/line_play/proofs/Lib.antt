@@ -1,0 +1,4 @@
+mod Additions
+mod Playings
+mod Talks
+mod Transcribed

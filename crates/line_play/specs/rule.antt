@@ -1,0 +1,4 @@
+pub mod Answers
+pub mod Stops
+pub mod Transcripts
+pub mod Playing

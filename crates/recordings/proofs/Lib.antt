@@ -1,5 +1,0 @@
-pub mod Searches
-pub mod FirstLines
-pub mod Empties
-pub mod Placings
-pub mod RowLaws

@@ -1,9 +1,0 @@
-use Rattle.std.proofs.Common.{◌∙◌, rules, tests}
-use Rattle.std.proofs.lemmas.Iterator.{YieldsList-from_slice}
-use Rattle.std.proofs.lemmas.Iterator.Search.{find_from_yields_List}
-use Rattle.token_server.specs.declared.token_queue.active_request.ActiveRequest.{ActiveRequest}
-use Rattle.token_server.specs.rule.Requests.{meets}
-use Rattle.states.proofs.place.held_on.Goals as goal
-
-pub returns : goal.returns
-returns c = c.copied.ensures ∙ find_from_yields_List (λ (h : ActiveRequest). meets c.args.span h.request.wanted.required) _ _ _ c.find.ensures.ran (YieldsList-from_slice _ c.iter.ensures.rest) (λ x b q k. search (rules, tests))

@@ -1,9 +1,0 @@
-use Rattle.std.proofs.Common.{◌≡◌, drop, fold, map}
-use Rattle.std.specs.BTreeSet.{insert_key}
-use Rattle.std.specs.Ordering.{nat_cmp}
-use Rattle.views.specs.declared.pictures.piece.Piece.{Piece}
-use Rattle.views.specs.rule.Tracks.{files}
-use Rattle.views.proofs.pictures.tracks.files.Given as goal
-
-abbrev pub invariant-loop-piece : goal.invariant-loop-piece
-invariant-loop-piece l = fold (insert_key nat_cmp) l.files.keys (map (λ (p : Piece). p.file) (drop l.piece-index l.pieces)) ≡ files l.pieces
