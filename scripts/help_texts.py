@@ -1,13 +1,11 @@
-"""Reads the help of lockreplay, which its parser writes of the table of commands, for scripts/completions."""
+"""Reads the help of lockreplay, of its program and of its tools, for scripts/completions."""
 import collections
 import re
 import subprocess
 
 NAME = "lockreplay"
 FILES = ("SCRIPT", "JOURNAL", "RECORDING", "HISTORY", "FILE", "LOG", "STATE", "MEMBERS")
-HEADINGS = ("Usage:", "Commands:", "Arguments:", "Options:")
-# Commands of which the list in the program's help says nothing.
-APART = ("seat", "members", "merge")
+HEADINGS = ("Usage:", "Commands", "Arguments:", "Options:")
 COMMAND = re.compile(r"  (\S+)  +(.+)")
 OPERAND = re.compile(r"  [<\[](\w+)[>\]](\.\.\.)?(?:  (.+))?")
 OPTION = re.compile(r" {2,6}(?:-(\w), )?--([\w-]+)(?: <(\w+)>)?")
@@ -33,7 +31,7 @@ def read(program):
     whole, names = sections(printed(program, "help"))
     found = [command_of(NAME, whole)]
     told = [COMMAND.fullmatch(line)[1] for line in names]
-    for name in [*told[:-1], *APART, told[-1]]:
+    for name in told:
         help_of, _ = sections(printed(program, "help", name))
         found.append(command_of(name, help_of))
     return found
@@ -47,12 +45,12 @@ def sections(text):
         if heading and section != "notes":
             section = heading
             found[section].append(line[len(heading) :].strip())
-        elif section in HEADINGS[1:] and line and not line.startswith(" "):
+        elif section in HEADINGS[2:] and line and not line.startswith(" "):
             section = "notes"
             found[section].append(line)
         else:
             found[section].append(line)
-    return found, [line for line in found["Commands:"] if line.strip()]
+    return found, [line for line in found["Commands"] if COMMAND.fullmatch(line)]
 
 
 def command_of(name, found):

@@ -561,7 +561,7 @@ try_any 'a picture of it' first.svg picture written.journal
 try 'the picture around its first call, behind --' 0 first.svg none picture --around=1.1.1 -- written.journal
 try 'the picture of all its entries' 0 first.svg none picture written.journal --from 1 --to 7
 try 'the picture of more than all its entries' 0 first.svg none picture --to 4294967295 written.journal
-for format in svg mermaid trace; do
+for format in svg mermaid; do
     try_any "all of it as $format" whole.$format picture written.journal --format $format
     try_any "a part of it as $format" part.$format picture written.journal --format $format --from 3 --to 5
     try "a part of it as $format, around a call" 0 part.$format none \
@@ -571,7 +571,7 @@ for format in svg mermaid trace; do
 done
 { echo 'cluster nodes 1 files 1 policy wide'; for _ in $(seq 405); do echo 'call 1 1 spawn'; done; } >spawns.lock
 try 'a journal of 405 entries' 0 none none run spawns.lock --journal spawns.journal --quiet
-for format in svg mermaid trace; do
+for format in svg mermaid; do
     echo 'entries 401 to 405 are left out: a picture shows 400 at most' >left-out
     try_part "the first 400 of its entries as $format" 1 1.1.400 1.1.401 left-out picture spawns.journal --format $format --to 405
     if test $format = svg; then
@@ -583,14 +583,14 @@ for format in svg mermaid trace; do
     echo 'entries 402 to 404 are left out: a picture shows 400 at most' >left-out
     try_part "400 of them from the second on as $format" 1 1.1.401 1.1.402 left-out picture spawns.journal --format $format --from 2 --to 404
     try_part "the 400 that were asked for as $format" 0 1.1.400 1.1.401 none picture spawns.journal --format $format --to 400
-    case $format in svg) fifth='1.1.5 ' ;; mermaid) fifth='1.1.5)' ;; trace) fifth='1.1.5"' ;; esac
+    case $format in svg) fifth='1.1.5 ' ;; mermaid) fifth='1.1.5)' ;; esac
     try_part "the fifth one as $format" 0 "$fifth" 1.1.6 none picture spawns.journal --format $format --from 5 --to 5
     try_part "the last 400 as $format" 0 1.1.405 "$fifth" none picture spawns.journal --format $format --from 6
     try_part "those around the last call as $format" 0 1.1.405 1.1.394 none picture spawns.journal --format $format --around 1.1.405
 done
 rm spawns.lock spawns.journal
-for format in svg mermaid trace; do
-    case $format in svg) begin='<svg ' ;; mermaid) begin=sequenceDiagram ;; trace) begin=traceEvents ;; esac
+for format in svg mermaid; do
+    case $format in svg) begin='<svg ' ;; mermaid) begin=sequenceDiagram ;; esac
     echo 'no entry lies from 8 to 4294967295: the last one is 7' >missed
     try_part "entries behind the last one as $format" 1 "$begin" 1.1.1 missed picture written.journal --format $format --from 8
     echo 'no entry lies from 5 to 4: the last one is 7' >missed

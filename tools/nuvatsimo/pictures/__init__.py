@@ -1,0 +1,1 @@
+"""Pictures of journals: SVG, overviews of long runs, and sequence diagrams."""

@@ -1,0 +1,1 @@
+"""Lock scripts and histories of clients, from recordings of system calls by strace."""
