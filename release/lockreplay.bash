@@ -40,7 +40,7 @@ _lockreplay() {
     [[ $before != = ]] || before=${COMP_WORDS[COMP_CWORD - 2]}
     [[ $word != = ]] || word=
     if ((COMP_CWORD == 1)); then
-        if [[ $word == -* ]]; then _lockreplay_words '-h --help -V --version'; else _lockreplay_words 'run threads audit history explain open state check picture stats from-strace explore schedule judge seat members merge help'; fi
+        if [[ $word == -* ]]; then _lockreplay_words '-h --help -V --version'; else _lockreplay_words 'run threads audit history state judge seat members merge play explain open check picture stats from-strace explore schedule help'; fi
         return
     fi
     case ${COMP_WORDS[1]} in
@@ -48,7 +48,7 @@ _lockreplay() {
         case $before in
         --after) compopt -o default ;;
         --journal) compopt -o default ;;
-        *) _lockreplay_rest 1 1 '--after --journal' '' '--after --journal --expect --open --quiet --calm --json -h --help'
+        *) _lockreplay_rest 1 1 '--after --journal' '' '--after --journal --expect --quiet --calm -h --help'
         esac
         ;;
     threads)
@@ -59,64 +59,15 @@ _lockreplay() {
         esac
         ;;
     audit)
-        _lockreplay_rest 1 1 '' '' '--why -h --help'
+        _lockreplay_rest 1 1 '' '' '-h --help'
         ;;
     history)
         _lockreplay_rest 1 1 '' '' '--as-clients -h --help'
         ;;
-    explain)
-        _lockreplay_rest 2 1 '' '' '--json -h --help'
-        ;;
-    open)
-        _lockreplay_rest 1 1 '' '' '--json -h --help'
-        ;;
     state)
         case $before in
         --at) : ;;
-        --node) : ;;
-        --file) : ;;
-        *) _lockreplay_rest 1 1 '--at --node --file' '' '--at --node --file --json -h --help'
-        esac
-        ;;
-    check)
-        case $before in
-        --journal) compopt -o default ;;
-        *) _lockreplay_rest 9999 9999 '--journal' '' '--journal --json -h --help'
-        esac
-        ;;
-    picture)
-        case $before in
-        --around) : ;;
-        --from) : ;;
-        --to) : ;;
-        --format) _lockreplay_words 'svg mermaid trace' ;;
-        *) _lockreplay_rest 1 1 '--around --from --to --format' '' '--around --from --to --format -h --help'
-        esac
-        ;;
-    stats)
-        _lockreplay_rest 1 1 '' '' '--json -h --help'
-        ;;
-    from-strace)
-        case $before in
-        --nodes) : ;;
-        --place) : ;;
-        *) _lockreplay_rest 9999 9999 '--nodes --place' '' '--nodes --place --history -h --help'
-        esac
-        ;;
-    explore)
-        case $before in
-        --seeds) : ;;
-        --first) : ;;
-        --losses) : ;;
-        --repeats) : ;;
-        --states) : ;;
-        *) _lockreplay_rest 1 1 '--seeds --first --losses --repeats --states' '' '--seeds --first --failures --json --all --losses --repeats --states -h --help'
-        esac
-        ;;
-    schedule)
-        case $before in
-        --seed) : ;;
-        *) _lockreplay_rest 1 1 '--seed' '' '--seed --failures -h --help'
+        *) _lockreplay_rest 1 1 '--at' '' '--at -h --help'
         esac
         ;;
     judge)
@@ -153,8 +104,58 @@ _lockreplay() {
         *) _lockreplay_rest 9999 9999 '--journal --members --skew' '' '--journal --members --check --skew -h --help'
         esac
         ;;
+    play)
+        _lockreplay_rest 0 0 '' '' '-h --help'
+        ;;
+    explain)
+        _lockreplay_rest 2 1 '' '' '--json -h --help'
+        ;;
+    open)
+        _lockreplay_rest 1 1 '' '' '--json -h --help'
+        ;;
+    check)
+        case $before in
+        --journal) compopt -o default ;;
+        *) _lockreplay_rest 9999 9999 '--journal' '' '--journal --json -h --help'
+        esac
+        ;;
+    picture)
+        case $before in
+        --around) : ;;
+        --from) : ;;
+        --to) : ;;
+        --format) _lockreplay_words 'svg mermaid' ;;
+        *) _lockreplay_rest 1 1 '--around --from --to --format' '' '--around --from --to --format -h --help'
+        esac
+        ;;
+    stats)
+        _lockreplay_rest 1 1 '' '' '--json -h --help'
+        ;;
+    from-strace)
+        case $before in
+        --nodes) : ;;
+        --place) : ;;
+        *) _lockreplay_rest 9999 9999 '--nodes --place' '' '--nodes --place --history -h --help'
+        esac
+        ;;
+    explore)
+        case $before in
+        --seeds) : ;;
+        --first) : ;;
+        --losses) : ;;
+        --repeats) : ;;
+        --states) : ;;
+        *) _lockreplay_rest 1 1 '--seeds --first --losses --repeats --states' '' '--seeds --first --failures --json --all --losses --repeats --states -h --help'
+        esac
+        ;;
+    schedule)
+        case $before in
+        --seed) : ;;
+        *) _lockreplay_rest 1 1 '--seed' '' '--seed --failures -h --help'
+        esac
+        ;;
     help)
-        ((COMP_CWORD > 2)) || _lockreplay_words 'run threads audit history explain open state check picture stats from-strace explore schedule judge seat members merge'
+        ((COMP_CWORD > 2)) || _lockreplay_words 'run threads audit history state judge seat members merge play explain open check picture stats from-strace explore schedule'
         ;;
     esac
 }
