@@ -53,8 +53,10 @@ as_other=()
 whole=$program
 if [ -r closed.lock ] && command -v setpriv >/dev/null; then
     as_other=(setpriv --reuid=65534 --regid=65534 --clear-groups)
-    cp "$program" program
-    whole=$room/program
+    cp -r "$(dirname -- "$program")" tools
+    cp "$LOCKREPLAY_PROGRAM" program
+    whole=$room/tools/lockreplay
+    export LOCKREPLAY_PROGRAM=$room/program
     chmod 755 "$room" program
 fi
 if [ -r closed.lock ] && [ ${#as_other[@]} = 0 ]; then

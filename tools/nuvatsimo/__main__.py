@@ -113,6 +113,8 @@ class _Closed(io.TextIOBase):
 
 def start() -> None:
     """Starts the tools with the words of the command line."""
+    if os.environ.get("LOCKREPLAY_INPUT") == "folder":
+        os.dup2(os.open("/", os.O_RDONLY), 0)
     sys.stdout = sys.stdout or _Closed()
     sys.stderr = sys.stderr or io.StringIO()
     for stream in (sys.stdout, sys.stderr):
