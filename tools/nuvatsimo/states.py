@@ -14,7 +14,7 @@ _DEAD = "knows dead "
 
 
 def is_about(line: str, node: Optional[int], file: Optional[int]) -> bool:
-    """Says whether a line has to do with the node and the file, of which None is any."""
+    """Says whether a line has to do with the node and the file. None stands for any."""
     word, _, rest = line.partition(" ")
     words = rest.split(" ")
     if word == "node":
