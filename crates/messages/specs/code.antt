@@ -1,1 +1,1 @@
-pub mod KeptOutcomes
+pub mod KeptParts

@@ -3,9 +3,9 @@ ghost use Rattle.std.specs.Prelude.{◌≡◌, ◌↔◌, IsTrue};
 ghost use Rattle.messages.specs.rule.Entries.{NamesItsCall, NamesItsIncarnation, entry_of, kept_name};
 
 use crate::event::{Event, NodeInput};
-use crate::kept_outcome::KeptOutcome;
 use crate::kept_reply::KeptReply;
 use crate::outcome::Outcome;
+use crate::sends::Sends;
 use crate::shared_message::SharedMessage;
 use model::call::CallId;
 use model::reply::Reply;
@@ -19,21 +19,24 @@ use std::marker::Model;
 pub struct Entry {
     event: Event,
     // The incarnation in the call's name, where the event is a call, else the one that the event
-    // names, or 0; the number in the call's name, else 0; the reply, and the messages.
-    outcome: KeptOutcome,
+    // names, or 0.
+    incarnation: u16,
+    // The number in the call's name, where the event is a call, else 0.
+    number: u32,
+    reply: KeptReply,
+    sends: Sends,
 }
 
-const _: () = prove!(size_of::<Entry>() == 72);
+const _: () = prove!(size_of::<Entry>() == 88);
 
 impl Model for Entry {
     ghost use Rattle.messages.specs.rule.Entries.{EntryFields, kept, IsKept};
-    ghost use Rattle.messages.specs.code.KeptOutcomes.{name_in, reply_in, messages_in};
 
     ghost Value = { EntryFields };
 
-    ghost view = { λ e. kept e.event (name_in e.outcome).0 (name_in e.outcome).1 (reply_in e.outcome) (messages_in e.outcome) };
+    ghost view = { λ e. kept e.event e.incarnation e.number e.reply e.sends };
 
-    ghost invariant = { λ e. IsKept e.event (name_in e.outcome).0 (name_in e.outcome).1 };
+    ghost invariant = { λ e. IsKept e.event e.incarnation e.number };
 }
 
 // The incarnation and the number that an entry keeps: the ones of the call's name, or the
@@ -71,7 +74,10 @@ impl Entry {
         let (incarnation, number) = kept_name(incarnation, outcome.call);
         Entry {
             event,
-            outcome: KeptOutcome::new(incarnation, number, reply, outcome.sends.fitted()),
+            incarnation,
+            number,
+            reply,
+            sends: outcome.sends.fitted(),
         }
     }
 
@@ -88,7 +94,7 @@ impl Entry {
     {
         match self.event {
             Event::AtNode(_, NodeInput::Call { .. }) => 0,
-            _ => self.outcome.name().0,
+            _ => self.incarnation,
         }
     }
 
@@ -98,14 +104,11 @@ impl Entry {
         ensures named { NamesItsCall self.now.event result }
     {
         match self.event {
-            Event::AtNode(node, NodeInput::Call { .. }) => {
-                let (incarnation, number) = self.outcome.name();
-                Some(CallId {
-                    node,
-                    incarnation,
-                    number,
-                })
-            }
+            Event::AtNode(node, NodeInput::Call { .. }) => Some(CallId {
+                node,
+                incarnation: self.incarnation,
+                number: self.number,
+            }),
             _ => None,
         }
     }
@@ -114,14 +117,14 @@ impl Entry {
     pub fn reply(&self) -> Option<(CallId, Reply)>
         ensures { result ≡ self.now.reply }
     {
-        self.outcome.reply()
+        self.reply.get()
     }
 
     /// The messages that the event sends, in the order in which the rules name them.
     pub fn sends(&self) -> &[SharedMessage]
         ensures { result.now ≡ self.now.sends }
     {
-        self.outcome.sends()
+        self.sends.as_slice()
     }
 
     /// Whether both entries are equal.

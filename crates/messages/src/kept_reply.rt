@@ -2,7 +2,7 @@
 //!
 //! Each function here that can fail errs with `AllocError`, where a request for memory was refused.
 ghost use Rattle.std.specs.Prelude.{◌≡◌, None, IfOk};
-ghost use Rattle.messages.specs.code.KeptOutcomes.{reply_of};
+ghost use Rattle.messages.specs.code.KeptParts.{reply_of};
 
 use model::call::CallId;
 use model::reply::Reply;
@@ -11,7 +11,7 @@ use std::marker::Model;
 
 // Most entries have no reply, or the reply `Done`: these need no memory of their own.
 #[derive(Drop)]
-pub(crate) enum CompactReply {
+enum CompactReply {
     Nothing,
     Done(CallId),
     Other(Box<(CallId, Reply)>),
@@ -20,14 +20,14 @@ pub(crate) enum CompactReply {
 /// The call that an entry answers with its reply, or none. Any reply but `Done` has memory of its own. Contracts see the call and the reply.
 #[derive(Drop)]
 pub struct KeptReply {
-    pub(crate) kept: CompactReply,
+    kept: CompactReply,
 }
 
 impl Model for KeptReply {
     ghost use Rattle.std.specs.Prelude.{Option};
     ghost use Rattle.model.specs.declared.reply.Reply.{Reply};
     ghost use Rattle.model.specs.declared.call.CallId.{CallId};
-    ghost use Rattle.messages.specs.code.KeptOutcomes.{reply_of};
+    ghost use Rattle.messages.specs.code.KeptParts.{reply_of};
 
     ghost Value = { Option (CallId × Reply) };
 
@@ -54,5 +54,16 @@ impl KeptReply {
             Some(other) => CompactReply::Other(Box::new(alloc, other)?),
         };
         Ok(KeptReply { kept })
+    }
+
+    /// The call and its reply.
+    pub(crate) fn get(&self) -> Option<(CallId, Reply)>
+        ensures { result ≡ self.now }
+    {
+        match &self.kept {
+            CompactReply::Nothing => None,
+            CompactReply::Done(call) => Some((*call, Reply::Done)),
+            CompactReply::Other(answer) => Some(**answer),
+        }
     }
 }

@@ -10,7 +10,6 @@ pub mod epoch_number;
 pub mod event;
 pub mod file_number;
 pub mod items;
-mod kept_outcome;
 pub mod kept_reply;
 pub mod message;
 pub mod outcome;

@@ -2,7 +2,7 @@
 //!
 //! Each function here that can fail errs with `AllocError`, where a request for memory was refused.
 ghost use Rattle.std.specs.Prelude.{◌≡◌, ◌↔◌, IsTrue, [], ◌∷◌, ◌++◌, IfOk, OnOk, length};
-ghost use Rattle.messages.specs.code.KeptOutcomes.{messages_of};
+ghost use Rattle.messages.specs.code.KeptParts.{messages_of};
 
 use crate::items::Items;
 use crate::message::Message;
@@ -13,7 +13,7 @@ use std::marker::Model;
 
 // Most steps send no message, or one.
 #[derive(Drop)]
-pub(crate) enum CompactSends {
+enum CompactSends {
     Nothing,
     One(SharedMessage),
     Many(Box<Items<SharedMessage>>),
@@ -23,13 +23,13 @@ pub(crate) enum CompactSends {
 /// the step's outcome, its entry and the list of those sent. Contracts see their list.
 #[derive(Drop)]
 pub struct Sends {
-    pub(crate) kept: CompactSends,
+    kept: CompactSends,
 }
 
 impl Model for Sends {
     ghost use Rattle.std.specs.Prelude.{List};
     ghost use Rattle.messages.specs.declared.message.Message.{Message};
-    ghost use Rattle.messages.specs.code.KeptOutcomes.{messages_of};
+    ghost use Rattle.messages.specs.code.KeptParts.{messages_of};
 
     ghost Value = { List Message };
 
