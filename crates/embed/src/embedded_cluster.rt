@@ -1,8 +1,7 @@
 //! Nodes and the token server of one file, and the messages between them.
 use crate::letter::{NodeLetter, ServerLetter};
 use crate::node_seat::NodeSeat;
-use crate::office::Office;
-use crate::shown::show_call;
+use crate::office::{FILE, Office};
 use crate::wire::line_of;
 use anyhow::bail;
 use members::members::Members;
@@ -16,9 +15,7 @@ use node_core::node::Node;
 use std::alloc::{AllocError, Global};
 use token_server::server::Server;
 
-// The one file of the cluster, and the one process of each node.
-const FILE: u16 = 1;
-
+// The one process of each node.
 const PROCESS: u16 = 1;
 
 // More letters than are ever read between two ticks.
@@ -53,7 +50,7 @@ impl EmbeddedCluster {
 
     /// The process of the node calls, and letters are read until none is left.
     pub fn call(&mut self, rt: &HostRuntime, node: u8, op: Op) -> anyhow::Result<()> {
-        show_call(rt, node, op)?;
+        println!(rt; "node {node} calls {op:?}")?;
         self.put(node, NodeLetter::Call { pid: PROCESS, op })?;
         self.settle(rt)
     }
@@ -83,8 +80,7 @@ impl EmbeddedCluster {
         self.seat(node)?.fence();
         self.office
             .put(ServerLetter::Declared { node, incarnation })?;
-        self.settle(rt)?;
-        self.office.show_node(rt, node)
+        self.settle(rt)
     }
 
     /// The node restarts: empty, in its next incarnation.
@@ -104,14 +100,6 @@ impl EmbeddedCluster {
         let incarnation = self.members.next(node)?;
         let empty = Node::new(alloc, self.shape, node, incarnation)?;
         Ok(Box::new(alloc, empty)?)
-    }
-
-    /// Prints which calls are open, and what the server does and knows.
-    pub fn show(&self, rt: &HostRuntime) -> anyhow::Result<()> {
-        for seat in &self.seats {
-            seat.show(rt)?;
-        }
-        self.office.show(rt)
     }
 
     // Letters are read, one after the other, until none is left.

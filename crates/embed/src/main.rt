@@ -31,11 +31,8 @@
 
 mod embedded_cluster;
 mod letter;
-mod names;
 mod node_seat;
 mod office;
-mod pace;
-mod shown;
 mod wire;
 
 use crate::embedded_cluster::EmbeddedCluster;
@@ -87,7 +84,6 @@ fn pass_on(rt: &HostRuntime, cluster: &mut EmbeddedCluster) -> anyhow::Result<()
     cluster.call(rt, 1, SET)?;
     wait(rt, cluster, 2)?;
     cluster.call(rt, 1, UNLOCK)?;
-    cluster.show(rt)?;
     cluster.pass(rt, 16)
 }
 
@@ -99,8 +95,7 @@ fn outlive(rt: &HostRuntime, cluster: &mut EmbeddedCluster) -> anyhow::Result<()
     cluster.restart(rt, 2)?;
     begin(rt, cluster, 2)?;
     cluster.call(rt, 2, SET)?;
-    cluster.pass(rt, 16)?;
-    cluster.show(rt)
+    cluster.pass(rt, 16)
 }
 
 // The process of the node begins, and opens the file.
@@ -112,7 +107,5 @@ fn begin(rt: &HostRuntime, cluster: &mut EmbeddedCluster, node: u8) -> anyhow::R
 // The process of the node waits for a lock of the other node: its request is lost, and sent again.
 fn wait(rt: &HostRuntime, cluster: &mut EmbeddedCluster, node: u8) -> anyhow::Result<()> {
     cluster.call(rt, node, WAIT)?;
-    cluster.show(rt)?;
-    cluster.pass(rt, 16)?;
-    cluster.show(rt)
+    cluster.pass(rt, 16)
 }

@@ -1,14 +1,11 @@
 //! The seat of a node.
 use crate::letter::NodeLetter;
-use crate::pace::Pace;
-use crate::shown::show_span;
 use crate::wire::message_in;
+use distances::patience::Patience;
 use messages::event::NodeInput;
 use messages::message::Message;
 use messages::outcome::Outcome;
 use messages::sends::Sends;
-use model::call::CallId;
-use model::reply::Reply;
 use node_core::event::NodeEvent;
 use node_core::node::Node;
 use node_core::open_call::OpenCall;
@@ -21,7 +18,7 @@ pub struct NodeSeat {
     node: Option<Box<Node>>,
     inbox: VecDeque<NodeLetter>,
     // Of all open calls of the node together.
-    pace: Pace,
+    patience: Patience,
 }
 
 impl NodeSeat {
@@ -30,14 +27,14 @@ impl NodeSeat {
         NodeSeat {
             node: Some(node),
             inbox: VecDeque::new(alloc),
-            pace: Pace::begun(),
+            patience: Patience::new(),
         }
     }
 
     /// Another node sits down at the empty seat.
     pub fn sit(&mut self, node: Box<Node>) {
         self.node = Some(node);
-        self.pace = Pace::begun();
+        self.patience = Patience::new();
     }
 
     /// The node takes no more steps, and what it has not read is lost.
@@ -60,20 +57,9 @@ impl NodeSeat {
             return Ok(None);
         };
         match self.inbox.pop_front() {
-            Some(letter) => Ok(Some(take(rt, node, &mut self.pace, letter)?)),
+            Some(letter) => Ok(Some(take(rt, node, &mut self.patience, letter)?)),
             None => Ok(None),
         }
-    }
-
-    /// Prints the node's open calls.
-    pub fn show(&self, rt: &HostRuntime) -> anyhow::Result<()> {
-        let Some(node) = &self.node else {
-            return Ok(());
-        };
-        for call in node.open_calls() {
-            show_call(rt, node, call)?;
-        }
-        Ok(())
     }
 }
 
@@ -81,7 +67,7 @@ impl NodeSeat {
 fn take(
     rt: &HostRuntime,
     node: &mut Node,
-    pace: &mut Pace,
+    patience: &mut Patience,
     letter: NodeLetter,
 ) -> anyhow::Result<Sends> {
     match letter {
@@ -89,7 +75,7 @@ fn take(
             step(rt, node, &NodeEvent::Input(NodeInput::Call { pid, op }))
         }
         NodeLetter::Line(line) => deliver(rt, node, &line),
-        NodeLetter::Tick => tick(rt, node, pace),
+        NodeLetter::Tick => tick(rt, node, patience),
     }
 }
 
@@ -117,29 +103,26 @@ fn receive(rt: &HostRuntime, node: &mut Node, message: &Message) -> anyhow::Resu
 fn told(rt: &HostRuntime, outcome: Outcome) -> anyhow::Result<Sends> {
     let Outcome { reply, sends, .. } = outcome;
     if let Some((call, reply)) = reply {
-        show_reply(rt, call, reply)?;
+        println!(rt;
+            "node {} answers call {}: {reply:?}",
+            call.node, call.number
+        )?;
     }
     Ok(sends)
 }
 
-// Prints the reply to a call.
-fn show_reply(rt: &HostRuntime, call: CallId, reply: Reply) -> anyhow::Result<()> {
-    println!(rt;
-        "node {} answers call {}: {reply:?}",
-        call.node, call.number
-    )?;
-    Ok(())
-}
-
 // A tick goes by: when it is time each open call is tried again. What is sent.
-fn tick(rt: &HostRuntime, node: &mut Node, pace: &mut Pace) -> anyhow::Result<Sends> {
+fn tick(rt: &HostRuntime, node: &mut Node, patience: &mut Patience) -> anyhow::Result<Sends> {
     let mut sends = Sends::nothing();
     if node.open_calls().is_empty() {
-        *pace = Pace::begun();
-    } else if pace.tick() {
+        *patience = Patience::new();
+        return Ok(sends);
+    }
+    if patience.is_due() {
         let calls = Vec::from_slice(rt.alloc(), node.open_calls())?;
         retry_all(rt, node, &calls, &mut sends)?;
     }
+    *patience = patience.after_tick();
     Ok(sends)
 }
 
@@ -162,14 +145,4 @@ fn retry(rt: &HostRuntime, node: &mut Node, call: &OpenCall) -> anyhow::Result<S
     println!(rt; "node {by} tries call {} again", call.number)?;
     let retry = NodeInput::Retry { pid: call.pid };
     step(rt, node, &NodeEvent::Input(retry))
-}
-
-// Prints an open call.
-fn show_call(rt: &HostRuntime, node: &Node, call: &OpenCall) -> anyhow::Result<()> {
-    let node = node.host().node;
-    println!(rt;
-        "  open: call {} of node {node}, {:?}",
-        call.number, call.lock_command
-    )?;
-    show_span(rt, call.mode, call.span)
 }
