@@ -48,7 +48,7 @@ LETTERS = " \n\r\t#-+0159aé\u00a0\u2003\x00"
 def whole_scripts() -> list[str]:
     """Returns short scripts that are good."""
     texts = []
-    for path in sorted(glob.glob(os.path.join(TOP, "tests", "*.lock"))):
+    for path in sorted(glob.glob(os.path.join(TOP, "tests", "scripts", "*.lock"))):
         with open(path, "rb") as file:
             data = file.read()
         try:
