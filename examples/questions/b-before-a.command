@@ -1,1 +1,0 @@
-explore SCRIPT --all

@@ -1,1 +1,0 @@
-explain JOURNAL 1.1.8

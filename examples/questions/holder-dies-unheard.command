@@ -1,1 +1,0 @@
-explain JOURNAL 2.1.3

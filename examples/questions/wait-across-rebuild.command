@@ -1,1 +1,0 @@
-run SCRIPT --calm --open

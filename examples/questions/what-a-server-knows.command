@@ -1,1 +1,0 @@
-state JOURNAL --at 20 --file 1
