@@ -34,7 +34,7 @@ pub asked_is : (p : Text × List Row) (t : JudgeTask) (text : Text)
       codes "judge",
       Some t.histories,
       map rule_text t.allowed,
-      Some text ∷ t.explains ∷ Some (flag_text t.order) ∷ Some (flag_text t.go_on) ∷ Some (flag_text t.stats) ∷ Some (flag_text t.json) ∷ Some (flag_text t.picture) ∷ [],
+      Some text ∷ t.explains ∷ Some (flag_text t.order) ∷ Some (flag_text t.go_on) ∷ Some (flag_text t.stats) ∷ Some (flag_text t.json) ∷ [],
     )
     → IsNumber 1 greatest_seed text t.steps → asked_of p.1 ≡ t
 asked_is p t text values number =
@@ -47,7 +47,6 @@ asked_is p t text values number =
     let go_on = flag_there 3 _ _ t.go_on others refl in
     let stats = flag_there 4 _ _ t.stats others refl in
     let json = flag_there 5 _ _ t.json others refl in
-    let picture = flag_there 6 _ _ t.picture others refl in
     λ i. record {
       histories = histories i;
       steps = steps i;
@@ -57,7 +56,6 @@ asked_is p t text values number =
       go_on = go_on i;
       stats = stats i;
       json = json i;
-      picture = picture i;
     }
 
 -- the command and its values tell the task

@@ -116,7 +116,6 @@ asked_of rows = record {
   go_on = flag_in (codes "go-on") rows;
   stats = flag_in (codes "stats") rows;
   json = flag_in (codes "json") rows;
-  picture = flag_in (codes "picture") rows;
 }
 
 -- the task of the command of this name, with these values

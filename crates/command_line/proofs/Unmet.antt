@@ -109,16 +109,13 @@ no_stats_flag rows none task met = none _ (ap (value_at 4) (ap beside_histories 
 pub no_json_flag : (rows : List Row) → NoFlag (codes "json") rows → Unmet (codes "judge") rows
 no_json_flag rows none task met = none _ (ap (value_at 5) (ap beside_histories (as_named (codes "judge") rows task met).1))
 
-pub no_picture_flag : (rows : List Row) → NoFlag (codes "picture") rows → Unmet (codes "judge") rows
-no_picture_flag rows none task met = none _ (ap (value_at 6) (ap beside_histories (as_named (codes "judge") rows task met).1))
-
 -- nor where what is asked for doesn't go together
 pub no_judge : (rows : List Row) (t : JudgeTask) (text : Text)
     → judge_values_in (Some (codes "judge", rows)) ≡ Some (
       codes "judge",
       Some t.histories,
       map rule_text t.allowed,
-      Some text ∷ t.explains ∷ Some (flag_text t.order) ∷ Some (flag_text t.go_on) ∷ Some (flag_text t.stats) ∷ Some (flag_text t.json) ∷ Some (flag_text t.picture) ∷ [],
+      Some text ∷ t.explains ∷ Some (flag_text t.order) ∷ Some (flag_text t.go_on) ∷ Some (flag_text t.stats) ∷ Some (flag_text t.json) ∷ [],
     )
     → IsNumber 1 greatest_seed text t.steps → (MayJudge t → ⊥) → Unmet (codes "judge") rows
 no_judge rows t text values number may_not task met = may_not (subst MayJudge (asked_is (codes "judge", rows) t text values number) (as_named (codes "judge") rows task met).3)

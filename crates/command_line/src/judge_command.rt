@@ -44,10 +44,6 @@ const JUDGE: &[Argument<'static>] = &[
         help: "Print counts of calls and of tables",
     },
     JSON,
-    Argument::Flag {
-        name: "picture",
-        help: "Draw the first call that fits nowhere, as SVG",
-    },
 ];
 
 pub(crate) fn judge_command<'a>() -> Subcommand<'a>

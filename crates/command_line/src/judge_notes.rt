@@ -28,8 +28,7 @@ With --explains FILE such lines are read from FILE and nothing is searched. The 
 'explains yes' where the orders explain the calls (exit status 0), else 'explains no F'
 with the first file whose order doesn't (exit status 1). With --stats a line of counts is
 printed too: the calls that are judged, exits, calls that say nothing, files, owners and
-machines. With --json all is printed as JSON. With --picture, of one HISTORY, the first
-call that fits nowhere is drawn as SVG, where one does, and nothing else is printed.
+machines. With --json all is printed as JSON.
 
 With --allow RULE, once for each, the history is judged by one table, but for these:
   wait-drops            a wait first gives back its owner's own locks on its bytes

@@ -1,7 +1,7 @@
 //! The line of a judgement.
 ghost use Rattle.std.specs.Prelude.{◌≡◌, [], codes, false, true, map, unwrap_or, IfOk, Some};
 ghost use Rattle.clap.specs.Words.{all_of, found_of, rows_of};
-ghost use Rattle.command_line.specs.rule.JudgeTasks.{judge_task_of, rule_text, MayDraw, MayExplain, MayJudge};
+ghost use Rattle.command_line.specs.rule.JudgeTasks.{judge_task_of, rule_text, MayJudge};
 ghost use Rattle.command_line.specs.rule.Kinds.{IsLineOf};
 
 use crate::allowed_rule::{AllowedRule, has_other_word, rules_in};
@@ -45,7 +45,6 @@ fn judge_of<'a>(
     let go_on = flag_in(values, "go-on")?;
     let stats = flag_in(values, "stats")?;
     let json = flag_in(values, "json")?;
-    let picture = flag_in(values, "picture")?;
     let line = JudgeLine {
         histories,
         steps,
@@ -55,7 +54,6 @@ fn judge_of<'a>(
         go_on,
         stats,
         json,
-        picture,
     };
     if !may_judge(&line) {
         return None;
@@ -63,35 +61,18 @@ fn judge_of<'a>(
     Some(CommandLine::Judge(line))
 }
 
-// Whether what is asked for goes together.
+// Whether there is a history, and of a judgement by an order no more and no words of a search.
 fn may_judge(line: &JudgeLine<'_>) -> bool
     ensures may { result ≡ true → MayJudge (judge_task_of line.now) }
     ensures may_not { result ≡ false → MayJudge (judge_task_of line.now) → ⊥ }
-{
-    may_explain(line) && may_draw(line)
-}
-
-// Whether there is a history, and of a judgement by an order no more and no words of a search.
-fn may_explain(line: &JudgeLine<'_>) -> bool
-    ensures may { result ≡ true → MayExplain (judge_task_of line.now).explains (judge_task_of line.now) }
-    ensures may_not { result ≡ false → MayExplain (judge_task_of line.now).explains (judge_task_of line.now) → ⊥ }
 {
     match line.explains {
         None => !line.histories.is_empty(),
         Some(_) => line.histories.len() == 1
             && line.steps == DEFAULT_STEPS
             && !line.order
-            && !line.go_on
-            && !line.picture,
+            && !line.go_on,
     }
-}
-
-// Whether a picture that is asked for is of one history.
-fn may_draw(line: &JudgeLine<'_>) -> bool
-    ensures may { result ≡ true → MayDraw line.now.picture (judge_task_of line.now) }
-    ensures may_not { result ≡ false → MayDraw line.now.picture (judge_task_of line.now) → ⊥ }
-{
-    !line.picture || line.histories.len() == 1
 }
 
 /// What is said where the values of the command come to no line.
@@ -99,8 +80,5 @@ pub(crate) fn judge_complaint(values: &ArgMatches<'_>) -> &'static str {
     if has_other_word(values) {
         return "invalid value for '--allow <RULE>': it is wait-drops, close-own-descriptor, no-query, stale-read-denial or lost-at";
     }
-    if values.get_str("FILE").is_some() {
-        return "the argument '--explains <FILE>' takes one HISTORY, and no '--steps', '--order', '--go-on' or '--picture'";
-    }
-    "the argument '--picture' takes one HISTORY"
+    "the argument '--explains <FILE>' takes one HISTORY, and no '--steps', '--order' or '--go-on'"
 }

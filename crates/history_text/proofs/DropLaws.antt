@@ -11,9 +11,9 @@ use Rattle.model.specs.declared.owner.Owner.{Owner}
 use Rattle.client_history.specs.declared.act.Act.TheVariants.{Drops}
 use Rattle.client_history.specs.declared.client_call.ClientCall.{ClientCall}
 use Rattle.history_text.specs.declared.file_calls.FileCalls.{FileCalls}
-use Rattle.history_text.specs.declared.life.Exit.{Exit}
-use Rattle.history_text.specs.declared.life.Life.{Life}
-use Rattle.history_text.specs.declared.losses.Loss.{Loss}
+use Rattle.history_text.specs.declared.owners.Exit.{Exit}
+use Rattle.history_text.specs.declared.owners.Life.{Life}
+use Rattle.history_text.specs.declared.drops.Loss.{Loss}
 use Rattle.history_text.specs.declared.rule.Allowed.{Allowed}
 use Rattle.history_text.specs.code.Drops.{Adds, IsAloneAtEnd, IsCallAtEnd, IsDrop, IsEnded, IsLossOf, with_told}
 use Rattle.history_text.specs.rule.Files.{IsAlone, IsCallOf, IsFileOf, calls_in, lines_in, runs}

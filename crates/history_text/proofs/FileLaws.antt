@@ -6,7 +6,7 @@ use Rattle.std.proofs.lemmas.List.Sums.{sum_by-set}
 use Rattle.texts.specs.rule.Reads.{IsWithin}
 use Rattle.client_history.specs.declared.client_call.ClientCall.{ClientCall}
 use Rattle.history_text.specs.declared.file_calls.FileCalls.{FileCalls}
-use Rattle.history_text.specs.declared.life.Life.{Life}
+use Rattle.history_text.specs.declared.owners.Life.{Life}
 use Rattle.history_text.specs.rule.Files.{AreBefore, AreFilesOf, IsAlone, IsCallOf, IsFileOf, lines_in, runs}
 use Rattle.history_text.specs.rule.Lives.{Extends}
 use Rattle.history_text.specs.code.Seconds.{second_step}

@@ -1,8 +1,8 @@
 -- Facts of owners that stay so.
 use Rattle.std.proofs.Common.{◌≡◌, ℕ, ◌≤◌, List, Option, Some, None, IfSome, subst, arith}
 use Rattle.history_text.specs.declared.known_names.KnownNames.{KnownNames}
-use Rattle.history_text.specs.declared.life.Exit.{Exit}
-use Rattle.history_text.specs.declared.life.Life.{Life}
+use Rattle.history_text.specs.declared.owners.Exit.{Exit}
+use Rattle.history_text.specs.declared.owners.Life.{Life}
 use Rattle.history_text.specs.rule.Lives.{Extends, Grows, IsExit, IsLife}
 use Rattle.history_text.specs.rule.Readings.{Learns}
 use Rattle.history_text.specs.rule.Times.{IsTimed}

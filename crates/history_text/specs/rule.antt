@@ -5,5 +5,4 @@ pub mod Lives
 pub mod Losses
 pub mod Owners
 pub mod Readings
-pub mod Rules
 pub mod Times

@@ -1,21 +1,75 @@
-//! Calls that drop all that an owner has in a file: losses and exits. A function here that gives a `Result` answers
-//! `AllocError` where a request for memory was refused.
-ghost use Rattle.std.specs.Prelude.{◌≡◌, ℕ, true, None, All, IfSome, OnOk};
+//! Losses of the locks of files, as where a lock server began again, and the calls that drop all that an owner has in
+//! a file: losses and exits. A function here that gives a `Result` answers `AllocError` where a request for memory was
+//! refused.
+ghost use Rattle.std.specs.Prelude.{◌≡◌, ℕ, [], true, None, All, IfSome, OnOk};
 ghost use Rattle.client_history.specs.declared.act.Act.TheVariants.{Drops};
 ghost use Rattle.history_text.specs.declared.rule.Allowed.{Allowed as Rules};
 ghost use Rattle.history_text.specs.code.Drops.{Adds, IsLossOf, with_told};
 ghost use Rattle.history_text.specs.rule.Lives.{AreLives};
-ghost use Rattle.history_text.specs.rule.Losses.{IsLoss};
+ghost use Rattle.history_text.specs.rule.Losses.{AreLosses, ArePaired, IsLoss};
 
 use crate::file_calls::FileCalls;
-use crate::life::{Exit, may_begin};
-use crate::losses::Loss;
-use crate::owners::Owners;
+use crate::names::Names;
+use crate::owners::{Exit, Owners, may_begin};
 use client_history::act::Act;
 use client_history::client_call::ClientCall;
 use indexmap::IndexSet;
 use model::owner::Owner;
 use std::alloc::{AllocError, Global};
+
+/// A loss of the locks of a file: the number of its line, and the times between which each owner lost what it had.
+#[derive(Clone, Copy)]
+pub(crate) struct Loss {
+    pub(crate) line: u64,
+    pub(crate) begin: u64,
+    pub(crate) end: u64,
+}
+
+/// The losses of all files: the files' names, and at the same index the losses of each file, in the order of their
+/// lines.
+#[derive(Drop)]
+pub(crate) struct Losses {
+    pub(crate) files: Names,
+    pub(crate) losses: Vec<Vec<Loss>>,
+}
+
+impl Losses {
+    /// No losses.
+    pub(crate) fn new(alloc: Global) -> Losses
+        ensures paired { ArePaired result }
+        ensures none { result.losses.items ≡ [] }
+    {
+        Losses {
+            files: Names::new(alloc),
+            losses: Vec::new(alloc),
+        }
+    }
+
+    /// Appends the loss of the file of this name.
+    pub(crate) fn push(&mut self, alloc: Global, file: &str, loss: Loss) -> Result<(), AllocError>
+        requires { ArePaired self.old }
+        ensures paired { OnOk result (ArePaired self.new) }
+        ensures losses { OnOk result ((allowed : Rules) (lines : ℕ) → IsLoss allowed lines loss → AreLosses allowed lines self.old → AreLosses allowed lines self.new) }
+    {
+        let number = self.files.number_of(alloc, file)?;
+        if number == self.losses.len() {
+            self.losses.push(Vec::new(alloc))?;
+        }
+        self.losses[number].push(loss)?;
+        Ok(())
+    }
+
+    /// The losses of the file of this name.
+    pub(crate) fn of_file(&self, name: &str) -> &[Loss]
+        requires { ArePaired self.now }
+        ensures { (allowed : Rules) (lines : ℕ) → AreLosses allowed lines self.now → All (IsLoss allowed lines) result.now }
+    {
+        match self.files.find(name) {
+            Some(number) => self.losses[number].as_slice(),
+            None => &[],
+        }
+    }
+}
 
 /// Appends to the calls of the file what their owners lost there, and then the exits of their owners.
 pub(crate) fn add_drops(

@@ -2,16 +2,15 @@
 //! request for memory was refused.
 ghost use Rattle.std.specs.Prelude.{◌≡◌, ◌≤◌, ◌<◌, ◌+◌, ℕ, List, All, length, max, sum_by, OnOk};
 ghost use Rattle.texts.specs.rule.Reads.{IsWithin};
-ghost use Rattle.history_text.specs.declared.life.Life.{Life};
+ghost use Rattle.history_text.specs.declared.owners.Life.{Life};
 ghost use Rattle.history_text.specs.declared.rule.Allowed.{Allowed as Rules};
 ghost use Rattle.history_text.specs.code.Drops.{AreEndedOf};
 ghost use Rattle.history_text.specs.rule.Files.{AreBefore, AreFilesOf, IsAlone, IsCallOf, lines_in};
 ghost use Rattle.history_text.specs.rule.Lives.{AreLives};
 ghost use Rattle.history_text.specs.rule.Losses.{AreLosses, ArePaired};
 
-use crate::drops::add_drops;
+use crate::drops::{Losses, add_drops};
 use crate::file_calls::FileCalls;
-use crate::losses::Losses;
 use crate::names::Names;
 use crate::owners::Owners;
 use client_history::client_call::ClientCall;

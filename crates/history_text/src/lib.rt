@@ -3,30 +3,19 @@
 //! files of the operating system, or of how a history is shown.
 #![tactic(auto)]
 
-mod call_line;
+mod asked_call;
 mod drops;
 pub mod error;
 pub mod file_calls;
 mod files;
-mod history_operation;
+mod head;
 mod history_reader;
-pub mod history_reason;
 mod known_names;
-mod life;
-pub mod line_counts;
-mod line_error;
 mod line_words;
-mod losses;
-pub mod machine;
+mod machines;
 pub mod names;
-mod numbers;
-mod operation_with_reply;
-mod owner_names;
-mod owner_numbers;
 mod owners;
 pub mod reading;
-mod reply_word;
 pub mod rule;
 mod steps;
-pub mod unit;
 pub mod written_history;

@@ -1,7 +1,13 @@
-//! The words of a line.
-use crate::history_reason::HistoryReason;
-use crate::line_error::WordFault;
+//! The words of a line, and the times, modes and bytes that they say. A function here that gives a `Result` answers
+//! `Bad` with the first word that may not stand there.
+ghost use Rattle.std.specs.Prelude.{◌≤◌, IfOk};
+
+use crate::error::{BadWord, LineError};
+use intervals::span::{GREATEST, Span};
+use model::mode::Mode;
+use texts::number::{number_of, offset_of};
 use texts::text::split_field;
+use texts::words::Named;
 
 /// A word, and the number of the line's bytes from its first one on.
 #[derive(Clone, Copy)]
@@ -11,12 +17,9 @@ pub(crate) struct LineWord<'a> {
 }
 
 impl LineWord<'_> {
-    /// The fault that the word may not stand there, for this reason.
-    pub(crate) fn fault(&self, reason: HistoryReason) -> WordFault {
-        WordFault {
-            left: self.left,
-            reason,
-        }
+    /// The error that the word may not stand there, for this reason.
+    pub(crate) fn fault(&self, reason: BadWord) -> LineError {
+        LineError::Bad(self.left, reason)
     }
 }
 
@@ -38,39 +41,22 @@ impl<'a> LineWords<'a> {
     }
 
     /// Takes the next word.
-    ///
-    /// # Errors
-    /// `Missing` where there is none.
-    pub(crate) fn next_word(&mut self) -> Result<LineWord<'a>, WordFault> {
-        let Some(line) = self.rest else {
-            return Err(missing(0));
-        };
-        let left = line.len();
-        let text = match split_field(line) {
-            Some((text, rest)) => {
-                self.rest = Some(rest);
-                text
-            }
-            None => {
-                self.rest = None;
-                line
-            }
+    pub(crate) fn next_word(&mut self) -> Result<LineWord<'a>, LineError> {
+        let line = self.rest.unwrap_or("");
+        let (text, rest) = match split_field(line) {
+            Some((text, rest)) => (text, Some(rest)),
+            None => (line, None),
         };
         if text.is_empty() {
-            return Err(missing(left));
+            return Err(self.fault(BadWord::Missing));
         }
+        self.rest = rest;
+        let left = line.len();
         Ok(LineWord { text, left })
     }
 
-    /// Takes the next word, which has to be this one.
-    ///
-    /// # Errors
-    /// `Missing` where there is none, and this reason where it is another word.
-    pub(crate) fn expect_word(
-        &mut self,
-        expected: &str,
-        reason: HistoryReason,
-    ) -> Result<(), WordFault> {
+    /// Takes the next word, which has to be this one; a reason says so.
+    pub(crate) fn expect_word(&mut self, expected: &str, reason: BadWord) -> Result<(), LineError> {
         let word = self.next_word()?;
         if word.text == expected {
             Ok(())
@@ -84,45 +70,93 @@ impl<'a> LineWords<'a> {
         let Some(line) = self.rest else {
             return false;
         };
-        if line == expected {
-            self.rest = None;
-            return true;
+        let (text, rest) = match split_field(line) {
+            Some((text, rest)) => (text, Some(rest)),
+            None => (line, None),
+        };
+        if text == expected {
+            self.rest = rest;
         }
-        match split_field(line) {
-            Some((text, rest)) if text == expected => {
-                self.rest = Some(rest);
-                true
-            }
-            _ => false,
-        }
+        text == expected
     }
 
     /// Checks that there is no next word.
-    ///
-    /// # Errors
-    /// `MoreWords` where there is one.
-    pub(crate) fn end(&self) -> Result<(), WordFault> {
+    pub(crate) fn end(&self) -> Result<(), LineError> {
         if self.has_more() {
-            Err(self.fault(HistoryReason::MoreWords))
+            Err(self.fault(BadWord::MoreWords))
         } else {
             Ok(())
         }
     }
 
-    /// The fault that the line may not go on like this behind the words that were taken.
-    pub(crate) fn fault(&self, reason: HistoryReason) -> WordFault {
-        let left = match self.rest {
-            Some(rest) => rest.len(),
-            None => 0,
-        };
-        WordFault { left, reason }
+    /// The error that the line may not go on like this behind the words that were taken.
+    pub(crate) fn fault(&self, reason: BadWord) -> LineError {
+        LineError::Bad(self.rest.unwrap_or("").len(), reason)
     }
 }
 
-// The fault that a word is missing, with that many bytes of the line behind the place where it should stand.
-fn missing(left: usize) -> WordFault {
-    WordFault {
-        left,
-        reason: HistoryReason::Missing,
+/// Takes the next word, a time or a length of time: a whole number below 2 to the power of 63.
+pub(crate) fn next_time(words: &mut LineWords<'_>) -> Result<u64, LineError> {
+    let word = words.next_word()?;
+    match number_of(word.text, 0, GREATEST) {
+        Some(time) => Ok(time),
+        None => Err(word.fault(unread_number(word.text))),
+    }
+}
+
+/// Takes the next word: the end of what began at that time, and no earlier; a reason says so.
+pub(crate) fn next_end(
+    words: &mut LineWords<'_>,
+    begin: u64,
+    reason: BadWord,
+) -> Result<u64, LineError>
+    ensures { IfOk result (λ end. begin ≤ end) }
+{
+    let before = words.fault(reason);
+    let end = next_time(words)?;
+    if end < begin {
+        return Err(before);
+    }
+    Ok(end)
+}
+
+/// Takes the next word, which names a mode.
+pub(crate) fn next_mode(words: &mut LineWords<'_>) -> Result<Mode, LineError> {
+    let word = words.next_word()?;
+    match Mode::of_word(word.text) {
+        Some(mode) => Ok(mode),
+        None => Err(word.fault(BadWord::UnknownMode)),
+    }
+}
+
+/// Takes the next two words, START and LEN, as in `struct flock`. Gives the bytes that they name.
+pub(crate) fn next_span(words: &mut LineWords<'_>) -> Result<Span, LineError> {
+    let first = words.next_word()?;
+    let start = offset_in(&first)?;
+    let second = words.next_word()?;
+    let len = offset_in(&second)?;
+    match Span::from_flock(start, len) {
+        Ok(span) => Ok(span),
+        Err(error) => Err(LineError::Bad(first.left, BadWord::NoBytes(error))),
+    }
+}
+
+// The offset that the word says.
+fn offset_in(word: &LineWord<'_>) -> Result<i64, LineError> {
+    match offset_of(word.text) {
+        Some(offset) => Ok(offset),
+        None => {
+            let digits = word.text.strip_prefix('-').unwrap_or(word.text);
+            Err(word.fault(unread_number(digits)))
+        }
+    }
+}
+
+// The reason why a word was not read as a number.
+fn unread_number(word: &str) -> BadWord {
+    if !word.starts_with('0') && word.bytes().all(|byte| byte.is_ascii_digit()) {
+        BadWord::TooLarge
+    } else {
+        BadWord::NotANumber
     }
 }

@@ -3,12 +3,12 @@ ghost use Rattle.std.specs.Prelude.{[], IfOk};
 ghost use Rattle.history_text.specs.rule.Histories.{IsHistoryOf};
 ghost use Rattle.history_text.specs.rule.Readings.{HasRead};
 
-use crate::error::ReadError;
+use crate::error::{BadWord, ReadError};
 use crate::files::end_files;
+use crate::head::Head;
 use crate::history_reader::HistoryReader;
-use crate::history_reason::HistoryReason;
 use crate::known_names::KnownNames;
-use crate::line_error::{LineError, WordFault};
+use crate::line_words::LineWords;
 use crate::rule::Allowed;
 use crate::written_history::WrittenHistory;
 use std::alloc::Global;
@@ -56,23 +56,27 @@ pub fn read(alloc: Global, text: &str, allowed: Allowed) -> Result<WrittenHistor
     let mut reader = HistoryReader::new(alloc);
     let count = read_lines(alloc, &mut reader, text, allowed)?;
     let HistoryReader {
-        unit,
+        head,
         known,
         mut files,
-        losses,
         counts,
     } = reader;
-    let Some(unit) = unit else {
-        return Err(no_head(count));
-    };
-    end_files(alloc, &mut files, &known.files, &known.owners, &losses)?;
-    let KnownNames {
-        machines,
-        owners,
-        files: names,
-    } = known;
+    if !head.is_read {
+        return Err(
+            LineWords::of("")
+                .fault(BadWord::NoHead)
+                .at(count.saturating_add(1), ""),
+        );
+    }
+    end_files(alloc, &mut files, &known.files, &known.owners, &head.losses)?;
+    let (
+        Head { machines, .. },
+        KnownNames {
+            owners,
+            files: names,
+        },
+    ) = (head, known);
     Ok(WrittenHistory {
-        unit,
         machines,
         owners: owners.names,
         names,
@@ -96,7 +100,8 @@ fn read_lines(
     while !rest.is_empty() {
         let number = count + 1;
         let Some((line, behind)) = split_at_first(rest, b'\n') else {
-            return Err(unfinished(number, rest));
+            let unfinished = LineWords::of("").fault(BadWord::Unfinished);
+            return Err(unfinished.at(number, rest));
         };
         match reader.take(alloc, allowed, number, line) {
             Ok(()) => {}
@@ -106,22 +111,4 @@ fn read_lines(
         count = number;
     }
     Ok(count)
-}
-
-// The error that the last line, which has this number, has no line feed.
-fn unfinished(number: u64, line: &str) -> ReadError {
-    let fault = WordFault {
-        left: 0,
-        reason: HistoryReason::Unfinished,
-    };
-    LineError::Bad(fault).at(number, line)
-}
-
-// The error that none of that many lines is the first one of a history.
-fn no_head(count: u64) -> ReadError {
-    ReadError::BadLine {
-        line: count.saturating_add(1),
-        column: 1,
-        reason: HistoryReason::NoHead,
-    }
 }

@@ -2,12 +2,10 @@
 ghost use Rattle.std.specs.Prelude.{◌≡◌, false};
 ghost use Rattle.history_text.specs.code.Steps.{IsWhole};
 
-use crate::history_operation::HistoryOperation;
-use crate::operation_with_reply::OperationWithReply;
-use crate::reply_word::ReplyWord;
+use crate::asked_call::{Operation, Reply};
 use crate::rule::Allowed;
 use client_history::act::Act;
-use intervals::span::Span;
+use client_history::told_lock::ToldLock;
 use model::mode::Mode;
 
 /// The steps of a call on the locks of its file, as far as its reply says: none, one or two acts.
@@ -18,76 +16,55 @@ pub(crate) enum Steps {
     Two(Act, Act),
 }
 
-/// The steps of the call on the locks of its file, where these rules are allowed.
-pub(crate) fn steps_of(asked: &OperationWithReply, allowed: Allowed) -> Steps
+/// The steps of a call on the locks of its file, where these rules are allowed: as far as the reply says, if there is
+/// one, which tells of the lock. A call without a reply has the steps of one that is done, if they may change a lock.
+pub(crate) fn steps_of(
+    operation: &Operation,
+    reply: Option<Reply>,
+    told: ToldLock,
+    allowed: Allowed,
+) -> Steps
     ensures { allowed.wait_drops ≡ false → IsWhole result }
 {
-    if is_silenced(asked, allowed) {
+    if is_silenced(operation, reply, allowed) {
         return Steps::None;
     }
-    match asked.operation {
-        HistoryOperation::Wait { mode, span } if allowed.wait_drops => {
-            steps_of_wait(asked.answer, mode, span)
-        }
-        _ => match act_of(asked) {
-            Some(act) => Steps::One(act),
-            None => Steps::None,
+    let is_done = reply.is_none_or(|reply| reply == Reply::Done);
+    match *operation {
+        Operation::Wait { mode, span } if allowed.wait_drops => match reply {
+            None | Some(Reply::Done) => Steps::Two(Act::Frees { span }, Act::Locks { mode, span }),
+            Some(Reply::Interrupted) => Steps::One(Act::Frees { span }),
+            _ => Steps::None,
         },
+        Operation::Set { mode, span } | Operation::Wait { mode, span } if is_done => {
+            Steps::One(Act::Locks { mode, span })
+        }
+        Operation::Set { mode, span } if reply == Some(Reply::Again) => {
+            Steps::One(Act::IsDenied { mode, span, told })
+        }
+        Operation::Query { mode, span } if reply == Some(Reply::Free) => {
+            Steps::One(Act::IsFree { mode, span })
+        }
+        Operation::Query { mode, span } if reply == Some(Reply::Blocked) => {
+            Steps::One(Act::IsDenied { mode, span, told })
+        }
+        Operation::Unlock { span } if is_done => Steps::One(Act::Frees { span }),
+        Operation::Close { .. } if is_done => Steps::One(Act::Drops),
+        _ => Steps::None,
     }
 }
 
 // Whether a rule lets the call say nothing.
-fn is_silenced(asked: &OperationWithReply, allowed: Allowed) -> bool {
-    match asked.operation {
-        HistoryOperation::Set { mode, .. } => allowed.stale_read_denial
-            && is_denied_read(asked, mode),
-        HistoryOperation::Query { mode, .. } => {
-            allowed.no_query || allowed.stale_read_denial && is_denied_read(asked, mode)
+fn is_silenced(operation: &Operation, reply: Option<Reply>, allowed: Allowed) -> bool {
+    let is_denied = reply == Some(Reply::Again) || reply == Some(Reply::Blocked);
+    match *operation {
+        Operation::Set { mode, .. } => {
+            allowed.stale_read_denial && is_denied && mode == Mode::Read
         }
-        HistoryOperation::Close { is_unused } => allowed.close_own_descriptor && is_unused,
-        HistoryOperation::Wait { .. } | HistoryOperation::Unlock { .. } => false,
-    }
-}
-
-// Whether the call, which asks for this mode, is a read that is denied.
-fn is_denied_read(asked: &OperationWithReply, mode: Mode) -> bool {
-    mode == Mode::Read && asked.answer.is_some_and(|answer| answer.tells_lock())
-}
-
-// The steps of a wait that first gives back the caller's own locks on its span. A wait that was interrupted gave them
-// back. One without a reply may have done that, and may have got the lock.
-fn steps_of_wait(answer: Option<ReplyWord>, mode: Mode, span: Span) -> Steps {
-    match answer {
-        None | Some(ReplyWord::Done) => Steps::Two(Act::Frees { span }, Act::Locks { mode, span }),
-        Some(ReplyWord::Interrupted) => Steps::One(Act::Frees { span }),
-        Some(ReplyWord::Again | ReplyWord::Free | ReplyWord::Blocked | ReplyWord::Refused) =>
-            Steps::None,
-    }
-}
-
-// The act of the call by one table, as far as its reply says. A call without a reply has the act of one that is done,
-// if that may change a lock.
-fn act_of(asked: &OperationWithReply) -> Option<Act> {
-    let (answer, told) = (asked.answer, asked.told);
-    match asked.operation {
-        HistoryOperation::Set { mode, span } | HistoryOperation::Wait { mode, span } =>
-            match answer {
-                None | Some(ReplyWord::Done) => Some(Act::Locks { mode, span }),
-                Some(ReplyWord::Again) => Some(Act::IsDenied { mode, span, told }),
-                _ => None,
-            },
-        HistoryOperation::Query { mode, span } => match answer {
-            Some(ReplyWord::Free) => Some(Act::IsFree { mode, span }),
-            Some(ReplyWord::Blocked) => Some(Act::IsDenied { mode, span, told }),
-            _ => None,
-        },
-        HistoryOperation::Unlock { span } => match answer {
-            None | Some(ReplyWord::Done) => Some(Act::Frees { span }),
-            _ => None,
-        },
-        HistoryOperation::Close { .. } => match answer {
-            None | Some(ReplyWord::Done) => Some(Act::Drops),
-            _ => None,
-        },
+        Operation::Query { mode, .. } => {
+            allowed.no_query || allowed.stale_read_denial && is_denied && mode == Mode::Read
+        }
+        Operation::Close { is_unused } => allowed.close_own_descriptor && is_unused,
+        Operation::Wait { .. } | Operation::Unlock { .. } => false,
     }
 }

@@ -3,20 +3,26 @@ ghost use Rattle.std.specs.Prelude.{◌≡◌, ℕ, List, All, IsTrue, ◌↔◌
 ghost use Rattle.history_text.specs.rule.Owners.{IsNamed};
 
 use crate::file_calls::FileCalls;
-use crate::line_counts::LineCounts;
-use crate::machine::Machine;
+use crate::machines::Machine;
 use crate::names::Names;
-use crate::owner_numbers::number_of;
-use crate::unit::Unit;
+use crate::owners::number_of;
 use model::owner::Owner;
 
-/// What clients of a lock manager saw, as a text writes it: the unit of its times; the machines that it declares; the
+/// The numbers of lines of calls in a history: of calls that stand in a file, of exits, and of calls that say nothing
+/// of locks, as those that were interrupted or refused, and queries without a reply.
+#[derive(Clone, Copy, Debug, PartialEq, Eq)]
+pub struct LineCounts {
+    pub calls: u64,
+    pub exits: u64,
+    pub silent: u64,
+}
+
+/// What clients of a lock manager saw, as a text writes it: the machines that it declares; the
 /// names of owners; the names of files, and at the same index the calls of each file, in the order in which files are
 /// first mentioned; and the numbers of lines of calls. An owner of the calls stands for a name, as `name_of` says;
 /// its fields say nothing else.
 #[derive(Drop)]
 pub struct WrittenHistory {
-    pub unit: Unit,
     pub machines: Vec<Machine>,
     pub owners: Names,
     pub names: Names,

@@ -7,8 +7,8 @@ use Rattle.history_text.specs.declared.file_calls.FileCalls.{FileCalls}
 use Rattle.history_text.specs.declared.written_history.WrittenHistory.{WrittenHistory}
 use Rattle.judgements.specs.declared.judged.Judged.{Judged}
 use Rattle.judgements.specs.declared.judged.Judged.TheVariants.{Explained, Contradicted, Unknown}
-use Rattle.judgements.specs.declared.judgement_outcome.JudgementOutcome.{JudgementOutcome}
-use Rattle.judgements.specs.declared.judgement_outcome.JudgementOutcome.TheVariants as outcome
+use Rattle.judgements.specs.declared.judging.JudgementOutcome.{JudgementOutcome}
+use Rattle.judgements.specs.declared.judging.JudgementOutcome.TheVariants as outcome
 use Rattle.judgements.specs.rule.Judgements.{HasOneClock, IsContradicted, IsExplained, IsJudged, IsOutcome, outcome_of}
 
 -- the outcome of the first files is true of them, where the history has one clock: each is explained, or one isn't
@@ -19,12 +19,12 @@ pub record SoFar (history : WrittenHistory) (said : JudgementOutcome) (count : �
 explained-file : (file : FileCalls) (found : Judged) → outcome_of found ≡ outcome.Yes → IsJudged file found → IsExplained file
 explained-file file (Explained order) word is = (order.items, is)
 explained-file file (Contradicted misfits unknown) word is = absurd (cc)
-explained-file file (Unknown call) word is = absurd (cc)
+explained-file file (Unknown line) word is = absurd (cc)
 
 contradicted-file : (file : FileCalls) (found : Judged) → outcome_of found ≡ outcome.No → IsJudged file found → IsContradicted file
 contradicted-file file (Explained order) word is = absurd (cc)
 contradicted-file file (Contradicted misfits unknown) word is = is
-contradicted-file file (Unknown call) word is = absurd (cc)
+contradicted-file file (Unknown line) word is = absurd (cc)
 
 -- one more file is judged
 pub so-far-more : (history : WrittenHistory) (was now said : JudgementOutcome) (count : ℕ) (file : FileCalls) (found : Judged) → count < length history.files.items → file ≡ get_or history.files.items count file

@@ -1,247 +1,218 @@
 //! The judgement of a history as JSON. A function here that gives a `Result` answers `AllocError` where a request for
 //! memory was refused.
-use crate::before::Before;
-use crate::json_parts::{push_numbers, push_string};
+use crate::findings::{Findings, Found, file_name, length_of};
+use crate::got_locks::{GotLocks, got_by};
 use crate::judged::{Judged, Misfit};
-use crate::judgement_outcome::JudgementOutcome;
-use crate::lines::line_of;
-use crate::locks::{file_name, owner_name, segment_of};
-use crate::observed::Observed;
-use crate::orders::mentions_of;
-use crate::places::Mention;
-use crate::report::line_at;
-use crate::stats::{FileStats, Stats};
-use history_text::line_counts::LineCounts;
-use history_text::rule::{Allowed, RULES};
-use history_text::written_history::WrittenHistory;
+use crate::orders::names_of;
+use crate::tables::Before;
 use model::lock_info::LockInfo;
-use std::alloc::{AllocError, Global};
+use std::alloc::AllocError;
 use std::fmt::Write;
 use texts::words::Named;
 
-/// Adds what was found of the calls of the file with this index, of a history that the text writes, with their order,
-/// if that is asked for.
-pub(crate) fn push_found(
-    alloc: Global,
+/// What is printed of a history, as JSON.
+pub(crate) fn json_of(all: &Findings<'_>) -> Result<String, AllocError> {
+    let mut text = String::new(all.alloc);
+    let out = &mut text;
+    open(out, "{")?;
+    push_text(out, "history", all.path)?;
+    match all.found {
+        Found::Judged(outcome, found) => {
+            push_text(out, "verdict", outcome.word())?;
+            push_key(out, "files", "[")?;
+            for (file, found) in found.iter().enumerate() {
+                push_found(out, all, file, found)?;
+            }
+            out.push_str("]")?;
+        }
+        Found::Ordered(Some(file)) => {
+            push_text(out, "explains", "no")?;
+            push_text(out, "file", file_name(all.history, file))?;
+        }
+        Found::Ordered(None) => push_text(out, "explains", "yes")?,
+    }
+    push_allowed(out, all)?;
+    if all.judging.stats {
+        push_stats(out, all)?;
+    }
+    out.push_str("}\n")?;
+    Ok(text)
+}
+
+// Adds what was found of the calls of the file with this index: their order, if it is asked for, or those that fit
+// nowhere, and up to which line an order was found, where that is known.
+fn push_found(
     out: &mut String,
-    history: &WrittenHistory,
-    text: &str,
+    all: &Findings<'_>,
     file: usize,
     found: &Judged,
-    with_order: bool,
 ) -> Result<(), AllocError> {
-    if !out.is_empty() {
-        out.push_str(",")?;
-    }
-    let word = found.outcome().word();
-    out.push_str("{\"file\":")?;
-    push_string(out, file_name(history, file))?;
-    write!(out, ",\"verdict\":\"{word}\"")?;
-    match found {
-        Judged::Explained { order } if with_order => {
-            push_order(alloc, out, history, file, order.as_slice())?;
+    open(out, "{")?;
+    push_text(out, "file", file_name(all.history, file))?;
+    push_text(out, "verdict", found.outcome().word())?;
+    let unknown = match found {
+        Judged::Explained { order } => {
+            if all.judging.order {
+                push_order(out, all, file, order)?;
+            }
+            None
         }
-        Judged::Explained { .. } => {}
         Judged::Contradicted { misfits, unknown } => {
-            push_misfits(out, history, text, misfits.as_slice())?;
-            push_unknown(out, *unknown)?;
+            push_key(out, "misfits", "[")?;
+            for misfit in misfits {
+                push_misfit(out, all, misfit)?;
+            }
+            out.push_str("]")?;
+            *unknown
         }
-        Judged::Unknown { call } => push_unknown(out, line_at(history, file, *call))?,
+        Judged::Unknown { line } => *line,
+    };
+    if let Some(line) = unknown {
+        push_number(out, "explained_up_to", line)?;
     }
     out.push_str("}")
 }
 
-// Adds the line up to which an order was found, if that is known.
-fn push_unknown(out: &mut String, line: Option<u64>) -> Result<(), AllocError> {
-    match line {
-        Some(line) => write!(out, ",\"explained_up_to\":{line}"),
-        None => Ok(()),
-    }
-}
-
-// Adds the order of the calls of the file with this index, by their lines.
+// Adds the order of the calls of the file with this index: for each a number where its line alone names it, else a
+// string.
 fn push_order(
-    alloc: Global,
     out: &mut String,
-    history: &WrittenHistory,
+    all: &Findings<'_>,
     file: usize,
     order: &[usize],
 ) -> Result<(), AllocError> {
-    let Some(of_file) = history.files.get(file) else {
+    let Some(calls) = all.history.files.get(file) else {
         return Ok(());
     };
-    let mentions = mentions_of(alloc, of_file, order)?;
-    out.push_str(",\"order\":[")?;
-    let mut comma = "";
-    for mention in &mentions {
-        out.push_str(comma)?;
-        push_mention(out, mention)?;
-        comma = ",";
+    push_key(out, "order", "[")?;
+    for call in names_of(all.alloc, calls, order)? {
+        let quote = if call.part.is_some() { "\"" } else { "" };
+        open(out, quote)?;
+        call.push(out)?;
+        out.push_str(quote)?;
     }
     out.push_str("]")
 }
 
-// Adds the name of a call: a number where its line alone names it, else a string.
-fn push_mention(out: &mut String, mention: &Mention) -> Result<(), AllocError> {
-    if mention.part.is_none() {
-        return mention.push(out);
-    }
-    out.push_str("\"")?;
-    mention.push(out)?;
-    out.push_str("\"")
-}
-
-// Adds the calls that fit nowhere.
-fn push_misfits(
-    out: &mut String,
-    history: &WrittenHistory,
-    text: &str,
-    misfits: &[Misfit],
-) -> Result<(), AllocError> {
-    out.push_str(",\"misfits\":[")?;
-    let mut comma = "";
-    for misfit in misfits {
-        out.push_str(comma)?;
-        push_misfit(out, history, text, misfit)?;
-        comma = ",";
-    }
-    out.push_str("]")
-}
-
-// Adds a call that fits nowhere, and the tables that there may be before it.
-fn push_misfit(
-    out: &mut String,
-    history: &WrittenHistory,
-    text: &str,
-    misfit: &Misfit,
-) -> Result<(), AllocError> {
-    let line = misfit.line;
-    write!(out, "{{\"line\":{line},\"call\":")?;
-    push_string(out, line_of(text, line))?;
-    out.push_str(",\"tables\":[")?;
-    let mut comma = "";
+// Adds the call that fits nowhere, and the tables that there may be before it.
+fn push_misfit(out: &mut String, all: &Findings<'_>, misfit: &Misfit) -> Result<(), AllocError> {
+    open(out, "{")?;
+    push_number(out, "line", misfit.line)?;
+    push_text(out, "call", all.line(misfit.line))?;
+    push_key(out, "tables", "[")?;
     for table in &misfit.tables {
-        out.push_str(comma)?;
-        push_table(out, history, table)?;
-        comma = ",";
+        push_table(out, all, table)?;
     }
     out.push_str("]}")
 }
 
 // Adds the locks of a table, the one of them that blocks the call, and the calls that are open there.
-fn push_table(
-    out: &mut String,
-    history: &WrittenHistory,
-    table: &Before,
-) -> Result<(), AllocError> {
-    out.push_str("{\"locks\":[")?;
-    let mut comma = "";
+fn push_table(out: &mut String, all: &Findings<'_>, table: &Before) -> Result<(), AllocError> {
+    open(out, "{")?;
+    push_key(out, "locks", "[")?;
     for lock in &table.locks {
-        out.push_str(comma)?;
-        push_lock(out, history, lock)?;
-        comma = ",";
+        open(out, "{")?;
+        push_lock(out, all, lock)?;
     }
-    out.push_str("],\"in_way\":")?;
+    out.push_str("]")?;
     match &table.in_way {
-        Some(lock) => push_lock(out, history, lock)?,
-        None => out.push_str("null")?,
-    }
-    out.push_str(",\"open\":")?;
-    push_numbers(out, table.open.as_slice())?;
-    out.push_str("}")
-}
-
-// Adds a lock.
-fn push_lock(
-    out: &mut String,
-    history: &WrittenHistory,
-    lock: &LockInfo,
-) -> Result<(), AllocError> {
-    let (start, len) = segment_of(lock.span);
-    let mode = lock.mode.word();
-    write!(
-        out,
-        "{{\"mode\":\"{mode}\",\"start\":{start},\"len\":{len},\"owner\":"
-    )?;
-    push_string(out, owner_name(history, &lock.owner))?;
-    out.push_str("}")
-}
-
-/// Adds the beginning of the judgement of the history at a path.
-pub(crate) fn push_head(out: &mut String, path: &str) -> Result<(), AllocError> {
-    out.push_str("{\"history\":")?;
-    push_string(out, path)
-}
-
-/// Adds the outcome of a history, and what was found of its files.
-pub(crate) fn push_outcome(
-    out: &mut String,
-    outcome: JudgementOutcome,
-    found: &str,
-) -> Result<(), AllocError> {
-    let word = outcome.word();
-    write!(out, ",\"verdict\":\"{word}\",\"files\":[{found}]")
-}
-
-/// Adds whether orders explain a history, or the first file whose order doesn't.
-pub(crate) fn push_ordered(
-    out: &mut String,
-    history: &WrittenHistory,
-    unexplained: Option<usize>,
-) -> Result<(), AllocError> {
-    match unexplained {
-        Some(file) => {
-            out.push_str(",\"explains\":\"no\",\"file\":")?;
-            push_string(out, file_name(history, file))
+        Some(lock) => {
+            push_key(out, "in_way", "{")?;
+            push_lock(out, all, lock)?;
         }
-        None => out.push_str(",\"explains\":\"yes\""),
+        None => push_key(out, "in_way", "null")?,
     }
-}
-
-/// Adds the rules that are allowed, if one is.
-pub(crate) fn push_allowed(out: &mut String, allowed: Allowed) -> Result<(), AllocError> {
-    let mut front = ",\"allowed\":[";
-    let mut end = "";
-    for rule in RULES {
-        if allowed.has(rule) {
-            let word = rule.word();
-            write!(out, "{front}\"{word}\"")?;
-            front = ",";
-            end = "]";
-        }
-    }
-    out.push_str(end)
-}
-
-/// Adds the counts.
-pub(crate) fn push_stats(out: &mut String, stats: &Stats<'_>) -> Result<(), AllocError> {
-    let LineCounts {
-        calls,
-        exits,
-        silent,
-    } = stats.counts;
-    let (files, owners, machines) = (stats.files.len(), stats.owners, stats.machines);
-    write!(
-        out,
-        ",\"stats\":{{\"calls\":{calls},\"exits\":{exits},\"silent\":{silent},\"files\":{files},\"owners\":{owners},\"machines\":{machines},\"locks\":["
-    )?;
-    let mut comma = "";
-    for file in &stats.files {
-        out.push_str(comma)?;
-        push_observed(out, file)?;
-        comma = ",";
+    push_key(out, "open", "[")?;
+    for line in &table.open {
+        open(out, "")?;
+        write!(out, "{line}")?;
     }
     out.push_str("]}")
 }
 
-// Adds the number of locks of a file that were got, and the number of them that another owner observed.
-fn push_observed(out: &mut String, file: &FileStats<'_>) -> Result<(), AllocError> {
-    let Observed { locks, observed } = file.observed;
-    out.push_str("{\"file\":")?;
-    push_string(out, file.name)?;
-    let never = locks.saturating_sub(observed);
-    write!(
-        out,
-        ",\"locks\":{locks},\"observed\":{observed},\"never_observed\":{never}}}"
-    )
+// Adds the fields of a lock, and the end of its object.
+fn push_lock(out: &mut String, all: &Findings<'_>, lock: &LockInfo) -> Result<(), AllocError> {
+    push_text(out, "mode", lock.mode.word())?;
+    push_number(out, "start", lock.span.lo)?;
+    push_number(out, "len", length_of(lock.span))?;
+    push_text(out, "owner", all.owner_name(&lock.owner))?;
+    out.push_str("}")
+}
+
+// Adds the rules that are allowed, if one is.
+fn push_allowed(out: &mut String, all: &Findings<'_>) -> Result<(), AllocError> {
+    let rules = all.rules();
+    if !rules.iter().any(|rule| rule.0) {
+        return Ok(());
+    }
+    push_key(out, "allowed", "[")?;
+    for (is_allowed, word) in &rules {
+        if *is_allowed {
+            open(out, "")?;
+            push_string(out, word)?;
+        }
+    }
+    out.push_str("]")
+}
+
+// Adds the counts, and for each file the number of locks that were got, and of those that another owner observed.
+fn push_stats(out: &mut String, all: &Findings<'_>) -> Result<(), AllocError> {
+    let history = all.history;
+    push_key(out, "stats", "{")?;
+    push_number(out, "calls", history.counts.calls)?;
+    push_number(out, "exits", history.counts.exits)?;
+    push_number(out, "silent", history.counts.silent)?;
+    push_number(out, "files", history.files.len() as u64)?;
+    push_number(out, "owners", history.owners.count() as u64)?;
+    push_number(out, "machines", history.machines.len() as u64)?;
+    push_key(out, "locks", "[")?;
+    for (file, of_file) in history.files.iter().enumerate() {
+        let GotLocks { got, observed } = got_by(all.alloc, &of_file.calls)?;
+        open(out, "{")?;
+        push_text(out, "file", file_name(history, file))?;
+        push_number(out, "locks", got)?;
+        push_number(out, "observed", observed)?;
+        push_number(out, "never_observed", got.saturating_sub(observed))?;
+        out.push_str("}")?;
+    }
+    out.push_str("]}")
+}
+
+// Adds the beginning of a value, behind a comma where another one stands before it.
+fn open(out: &mut String, value: &str) -> Result<(), AllocError> {
+    if !out.is_empty() && !out.ends_with('[') && !out.ends_with('{') {
+        out.push_str(",")?;
+    }
+    out.push_str(value)
+}
+
+// Adds a name with the beginning of its value.
+fn push_key(out: &mut String, key: &str, value: &str) -> Result<(), AllocError> {
+    open(out, "\"")?;
+    write!(out, "{key}\":{value}")
+}
+
+fn push_number(out: &mut String, key: &str, number: u64) -> Result<(), AllocError> {
+    push_key(out, key, "")?;
+    write!(out, "{number}")
+}
+
+fn push_text(out: &mut String, key: &str, text: &str) -> Result<(), AllocError> {
+    push_key(out, key, "")?;
+    push_string(out, text)
+}
+
+// Adds the text as a string.
+fn push_string(out: &mut String, text: &str) -> Result<(), AllocError> {
+    out.push_str("\"")?;
+    for character in text.chars() {
+        let code = character as u32;
+        match character {
+            '"' => out.push_str("\\\"")?,
+            '\\' => out.push_str("\\\\")?,
+            _ if code < 32 => write!(out, "\\u{code:04x}")?,
+            _ => out.push(character)?,
+        }
+    }
+    out.push_str("\"")
 }

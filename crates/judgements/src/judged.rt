@@ -1,18 +1,23 @@
-//! The judgement of one file's calls.
+//! The judgement of a history's files. A function here that gives a `Result` answers `AllocError` where a request for
+//! memory was refused.
 ghost use Rattle.std.specs.Prelude.{◌≡◌, IfOk};
-ghost use Rattle.judgements.specs.rule.Judgements.{IsContradicted, IsJudged, outcome_of};
+ghost use Rattle.judgements.specs.rule.Judgements.{HasOneClock, IsContradicted, IsJudged, IsOutcome, outcome_of};
 
-use crate::before::{Before, tables_before};
-use crate::judgement_outcome::JudgementOutcome;
+use crate::judging::{JudgementOutcome, Judging};
+use crate::tables::{Before, table_before};
 use client_history::client_call::ClientCall;
 use client_history::judge::judge;
 use client_history::verdict::Verdict;
 use history_text::file_calls::FileCalls;
+use history_text::written_history::WrittenHistory;
+use indexmap::IndexMap;
+use model::owner::Owner;
 use std::alloc::{AllocError, Global};
+use texts::text::split_at_first;
 
 /// What is found of the calls of a file.
 #[derive(Drop)]
-pub enum Judged {
+pub(crate) enum Judged {
     /// The calls are explained by this order, each named by its index.
     Explained {
         order: Vec<usize>,
@@ -24,22 +29,22 @@ pub enum Judged {
         unknown: Option<u64>,
     },
     /// It is not known whether an order explains the calls, as in `Verdict::Unknown` of `client_history`: mostly
-    /// because the search was out of steps at the end of the call with this index.
+    /// because the search was out of steps at the end of the call in this line.
     Unknown {
-        call: usize,
+        line: Option<u64>,
     },
 }
 
 /// A call that fits nowhere: the number of its line, and the tables that there may be before it, three at most.
 #[derive(Drop)]
-pub struct Misfit {
-    pub line: u64,
-    pub tables: Vec<Before>,
+pub(crate) struct Misfit {
+    pub(crate) line: u64,
+    pub(crate) tables: Vec<Before>,
 }
 
 impl Judged {
     /// The finding in a word.
-    pub fn outcome(&self) -> JudgementOutcome
+    pub(crate) fn outcome(&self) -> JudgementOutcome
         ensures { result ≡ outcome_of self.now }
     {
         match self {
@@ -50,34 +55,59 @@ impl Judged {
     }
 }
 
-/// Judges the calls of a file, where a search may look at `steps` tables. With `go_on` each call that fits nowhere is
-/// left out, and the others are judged again.
-///
-/// # Errors
-/// `AllocError` where a request for memory was refused.
-pub fn judge_file(
+/// Judges each file of the history. Gives the outcome of all together, and adds what was found of each.
+pub(crate) fn files_judged(
     alloc: Global,
+    history: &WrittenHistory,
+    judging: Judging,
+    told: &mut Vec<Judged>,
+) -> Result<JudgementOutcome, AllocError>
+    ensures { IfOk result (IsOutcome history.now) }
+{
+    let mut outcome = JudgementOutcome::Yes;
+    for file in 0..history.files.len() {
+        let found = file_judged(alloc, history, &history.files[file], judging)?;
+        outcome = outcome.with(found.outcome());
+        told.push(found)?;
+    }
+    Ok(outcome)
+}
+
+// Judges the calls of a file, each in all the time in which it may have been made.
+fn file_judged(
+    alloc: Global,
+    history: &WrittenHistory,
     file: &FileCalls,
-    steps: u64,
-    go_on: bool,
+    judging: Judging,
 ) -> Result<Judged, AllocError>
+    ensures { IfOk result (λ found. HasOneClock history.now → IsJudged file.now found) }
+{
+    if history.has_one_clock() {
+        return judge_file(alloc, file, judging);
+    }
+    let wider = widened(alloc, history, file)?;
+    judge_file(alloc, &wider, judging)
+}
+
+// Judges the calls of a file as their times stand.
+fn judge_file(alloc: Global, file: &FileCalls, judging: Judging) -> Result<Judged, AllocError>
     ensures { IfOk result (IsJudged file.now) }
 {
-    match judge(alloc, file.calls.as_slice(), steps)? {
+    match judge(alloc, file.calls.as_slice(), judging.steps)? {
         Verdict::Explained { order } => Ok(Judged::Explained { order }),
-        Verdict::Unexplained { call, ways } => {
-            contradicted(alloc, file, steps, go_on, call, &ways)
-        }
-        Verdict::Unknown { call } => Ok(Judged::Unknown { call }),
+        Verdict::Unexplained { call, ways } => contradicted(alloc, file, judging, call, &ways),
+        Verdict::Unknown { call } => Ok(Judged::Unknown {
+            line: file.lines.get(call).copied(),
+        }),
     }
 }
 
 // The finding on calls that no order explains, of which this one is the first that fits nowhere, behind these ways.
+// To go on each call that fits nowhere is left out, and the others are judged again.
 fn contradicted(
     alloc: Global,
     file: &FileCalls,
-    steps: u64,
-    go_on: bool,
+    judging: Judging,
     call: usize,
     ways: &[Vec<usize>],
 ) -> Result<Judged, AllocError>
@@ -85,35 +115,25 @@ fn contradicted(
     ensures { IfOk result (IsJudged file.now) }
 {
     let mut misfits = Vec::new(alloc);
+    let mut unknown = None;
     misfits.push(misfit_of(alloc, file, call, ways)?)?;
-    let unknown = if go_on {
+    if judging.go_on {
         let mut left = without(alloc, file, call)?;
-        further(alloc, &mut left, steps, &mut misfits)?
-    } else {
-        None
-    };
-    Ok(Judged::Contradicted { misfits, unknown })
-}
-
-// Adds further calls that fit nowhere, each of which is left out when the next one is looked for. Gives the line of
-// the call at whose end the last search was out of steps, if it was.
-fn further(
-    alloc: Global,
-    left: &mut FileCalls,
-    steps: u64,
-    misfits: &mut Vec<Misfit>,
-) -> Result<Option<u64>, AllocError> {
-    for _ in 0..left.calls.len() {
-        match judge(alloc, left.calls.as_slice(), steps)? {
-            Verdict::Explained { .. } => return Ok(None),
-            Verdict::Unexplained { call, ways } => {
-                misfits.push(misfit_of(alloc, left, call, &ways)?)?;
-                *left = without(alloc, left, call)?;
+        for _ in 0..left.calls.len() {
+            match judge(alloc, left.calls.as_slice(), judging.steps)? {
+                Verdict::Explained { .. } => break,
+                Verdict::Unexplained { call, ways } => {
+                    misfits.push(misfit_of(alloc, &left, call, &ways)?)?;
+                    left = without(alloc, &left, call)?;
+                }
+                Verdict::Unknown { call } => {
+                    unknown = left.lines.get(call).copied();
+                    break;
+                }
             }
-            Verdict::Unknown { call } => return Ok(left.lines.get(call).copied()),
         }
     }
-    Ok(None)
+    Ok(Judged::Contradicted { misfits, unknown })
 }
 
 // The call that fits nowhere, with the tables that these ways lead to.
@@ -123,16 +143,19 @@ fn misfit_of(
     call: usize,
     ways: &[Vec<usize>],
 ) -> Result<Misfit, AllocError> {
-    Ok(Misfit {
-        line: file.lines.get(call).copied().unwrap_or(0),
-        tables: tables_before(alloc, file, call, ways)?,
-    })
+    let mut tables = Vec::new(alloc);
+    for way in ways {
+        tables.push(table_before(alloc, file, call, way)?)?;
+    }
+    let line = file.lines.get(call).copied().unwrap_or(0);
+    Ok(Misfit { line, tables })
 }
 
-// The calls of a file without those of this one's line.
+// The calls of a file without those of this one's line. A call that follows another one that is left names it by its
+// new index.
 fn without(alloc: Global, file: &FileCalls, call: usize) -> Result<FileCalls, AllocError> {
     let without = file.lines.get(call).copied().unwrap_or(0);
-    let mut places = Vec::new(alloc);
+    let mut places: Vec<Option<usize>> = Vec::new(alloc);
     let mut calls = Vec::new(alloc);
     let mut lines = Vec::new(alloc);
     let mut told = 0;
@@ -142,7 +165,11 @@ fn without(alloc: Global, file: &FileCalls, call: usize) -> Result<FileCalls, Al
             continue;
         }
         places.push(Some(calls.len()))?;
-        calls.push(moved(other, places.as_slice()))?;
+        let follows = match other.follows {
+            Some(first) => places.get(first).copied().unwrap_or(None),
+            None => None,
+        };
+        calls.push(ClientCall { follows, ..*other })?;
         lines.push(*line)?;
         if index < file.told {
             told = calls.len();
@@ -151,11 +178,41 @@ fn without(alloc: Global, file: &FileCalls, call: usize) -> Result<FileCalls, Al
     Ok(FileCalls { calls, lines, told })
 }
 
-// The call, with the new index of the call that it follows, if that one is left. `places` has the new indexes.
-fn moved(call: &ClientCall, places: &[Option<usize>]) -> ClientCall {
-    let follows = match call.follows {
-        Some(first) => places.get(first).copied().unwrap_or(None),
-        None => None,
-    };
-    ClientCall { follows, ..*call }
+/// The calls of a file of the history, each in all the time in which it may have been made: its own time, widened at
+/// both ends by as much as the clock of its owner's machine may be off.
+pub(crate) fn widened(
+    alloc: Global,
+    history: &WrittenHistory,
+    file: &FileCalls,
+) -> Result<FileCalls, AllocError> {
+    let mut skews = IndexMap::new(alloc);
+    for machine in &history.machines {
+        skews.insert(machine.name.as_str(), machine.skew)?;
+    }
+    let mut calls = Vec::new(alloc);
+    for call in &file.calls {
+        let skew = skew_of(history, &skews, &call.owner).unwrap_or(0);
+        let end = match call.end {
+            Some(end) => Some(end.saturating_add(skew)),
+            None => None,
+        };
+        let begin = call.begin.saturating_sub(skew);
+        calls.push(ClientCall {
+            begin,
+            end,
+            ..*call
+        })?;
+    }
+    let lines = file.lines.clone()?;
+    Ok(FileCalls {
+        calls,
+        lines,
+        told: file.told,
+    })
+}
+
+// How far the clock of the owner's machine may be off, if the owner names one. The machines stand by their names.
+fn skew_of(history: &WrittenHistory, skews: &IndexMap<&str, u64>, owner: &Owner) -> Option<u64> {
+    let (_, machine) = split_at_first(history.name_of(owner)?, b'@')?;
+    skews.get(&machine).copied()
 }

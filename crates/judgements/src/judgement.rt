@@ -3,23 +3,19 @@ ghost use Rattle.std.specs.Prelude.{IfOk};
 ghost use Rattle.history_text.specs.rule.Histories.{IsHistoryOf};
 ghost use Rattle.judgements.specs.rule.Judgements.{IsJudgement, IsOrdered};
 
-use crate::error::JudgeError;
-use crate::file_judgement::files_judged;
-use crate::judgement_outcome::JudgementOutcome;
-use crate::judging::Judging;
-use crate::ordered::first_unexplained;
-use crate::orders::{OrdersError, orders_of};
-use crate::places::Mention;
-use crate::report_texts::ReportTexts;
-use crate::stats::Stats;
-use crate::{json, report};
+use crate::findings::{Findings, Found};
+use crate::json::json_of;
+use crate::judged::files_judged;
+use crate::judging::{JudgeError, JudgementOutcome, Judging};
+use crate::lines::lines_of;
+use crate::orders::{first_unexplained, orders_of};
 use history_text::error::ReadError;
 use history_text::reading::read;
 use history_text::rule::Allowed;
 use history_text::written_history::WrittenHistory;
 use std::alloc::{AllocError, Global};
 
-/// The judgement of a history: its outcome, and what is printed of it, in lines or as a picture.
+/// The judgement of a history: its outcome, and what is printed of it.
 #[derive(Drop)]
 pub struct Judgement {
     pub outcome: JudgementOutcome,
@@ -41,12 +37,10 @@ pub fn judge_history(
     ensures { IfOk result (λ judgement. IsJudgement judging.allowed text.now judgement.outcome) }
 {
     let history = history_of(alloc, path, text, judging.allowed)?;
-    let mut told = ReportTexts::new(alloc);
-    let outcome = files_judged(alloc, &history, text, judging, &mut told)?;
-    let text = match told.picture.take() {
-        Some(picture) => picture,
-        None => outcome_text(alloc, path, &history, outcome, &told, judging)?,
-    };
+    let mut told = Vec::new(alloc);
+    let outcome = files_judged(alloc, &history, judging, &mut told)?;
+    let found = Found::Judged(outcome, told.as_slice());
+    let text = printed(alloc, path, text, &history, judging, found)?;
     Ok(Judgement { outcome, text })
 }
 
@@ -67,9 +61,15 @@ pub fn judge_orders(
     ensures { IfOk result (λ judgement. IsOrdered judging.allowed text.now judgement.outcome) }
 {
     let history = history_of(alloc, path, text, judging.allowed)?;
-    let orders = orders_in(alloc, &history, orders_path, orders)?;
+    let orders = match orders_of(alloc, &history, orders)? {
+        Ok(orders) => orders,
+        Err(line) => return Err(JudgeError::Bad(format!(in alloc;
+            "{orders_path}:{line}: expected `order F LINE ..`, once for a file F of the history\n"
+        )?)),
+    };
     let unexplained = first_unexplained(alloc, &history, orders.as_slice())?;
-    let text = ordered_text(alloc, path, &history, unexplained, judging)?;
+    let found = Found::Ordered(unexplained);
+    let text = printed(alloc, path, text, &history, judging, found)?;
     let outcome = match unexplained {
         Some(_) => JudgementOutcome::No,
         None => JudgementOutcome::Yes,
@@ -99,82 +99,26 @@ fn history_of(
     }
 }
 
-// The orders that the text writes, which is the content of the file at this path.
-fn orders_in(
+// What is printed of a history, as JSON if that is asked for, else in lines.
+fn printed(
     alloc: Global,
-    history: &WrittenHistory,
     path: &str,
     text: &str,
-) -> Result<Vec<Vec<Mention>>, JudgeError> {
-    match orders_of(alloc, history, text) {
-        Ok(orders) => Ok(orders),
-        Err(OrdersError::NoMemory) => Err(JudgeError::NoMemory),
-        Err(OrdersError::BadLine(line)) => Err(JudgeError::Bad(format!(in alloc;
-            "{path}:{line}: expected `order F LINE ..`, once for a file F of the history\n"
-        )?)),
-    }
-}
-
-// What is printed of a history, with what is printed of its files.
-fn outcome_text(
-    alloc: Global,
-    path: &str,
     history: &WrittenHistory,
-    outcome: JudgementOutcome,
-    told: &ReportTexts,
     judging: Judging,
+    found: Found<'_>,
 ) -> Result<String, AllocError> {
-    let mut out = String::new(alloc);
+    let all = Findings {
+        alloc,
+        path,
+        text,
+        history,
+        judging,
+        found,
+    };
     if judging.json {
-        json::push_head(&mut out, path)?;
-        json::push_outcome(&mut out, outcome, &told.found)?;
+        json_of(&all)
     } else {
-        report::push_outcome(&mut out, outcome, told, judging)?;
+        lines_of(&all)
     }
-    push_end(alloc, &mut out, history, judging)?;
-    Ok(out)
-}
-
-// What is printed of a history whose files are all explained by the orders, or of which this is the first that is
-// not.
-fn ordered_text(
-    alloc: Global,
-    path: &str,
-    history: &WrittenHistory,
-    unexplained: Option<usize>,
-    judging: Judging,
-) -> Result<String, AllocError> {
-    let mut out = String::new(alloc);
-    if judging.json {
-        json::push_head(&mut out, path)?;
-        json::push_ordered(&mut out, history, unexplained)?;
-    } else {
-        report::push_ordered(&mut out, history, unexplained, judging.allowed)?;
-    }
-    push_end(alloc, &mut out, history, judging)?;
-    Ok(out)
-}
-
-// Adds the counts, if they are asked for, and the end of JSON.
-fn push_end(
-    alloc: Global,
-    out: &mut String,
-    history: &WrittenHistory,
-    judging: Judging,
-) -> Result<(), AllocError> {
-    if judging.json {
-        json::push_allowed(out, judging.allowed)?;
-    }
-    if judging.stats {
-        let stats = Stats::of(alloc, history)?;
-        if judging.json {
-            json::push_stats(out, &stats)?;
-        } else {
-            report::push_stats(out, &stats)?;
-        }
-    }
-    if judging.json {
-        out.push_str("}\n")?;
-    }
-    Ok(())
 }

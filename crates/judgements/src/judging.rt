@@ -1,5 +1,11 @@
-//! The ways in which a history can be judged and printed.
+//! The ways in which a history can be judged, and the outcomes.
+ghost use Rattle.std.specs.Prelude.{◌≡◌, ◌⊎◌};
+ghost use Rattle.judgements.specs.declared.judging.JudgeError.TheVariants.{NoMemory};
+ghost use Rattle.judgements.specs.declared.judging.JudgementOutcome.TheVariants.{Yes, No};
+
 use history_text::rule::Allowed;
+use std::alloc::AllocError;
+use thiserror::Error;
 
 /// The way in which a history is judged, and what is printed of it.
 #[derive(Clone, Copy)]
@@ -16,7 +22,59 @@ pub struct Judging {
     pub json: bool,
     /// The rules by which the lock manager may differ from one table.
     pub allowed: Allowed,
-    /// Whether a picture of the first call that fits nowhere is printed in place of all else, if there is such a
-    /// call.
-    pub picture: bool,
+}
+
+/// The outcome for a history, or for the calls of a file.
+#[derive(Clone, Copy, Debug, PartialEq, Eq)]
+pub enum JudgementOutcome {
+    /// An order of the calls explains them.
+    Yes,
+    /// It is not known whether an order explains them.
+    Unknown,
+    /// No order explains them.
+    No,
+}
+
+impl JudgementOutcome {
+    /// The word for the outcome.
+    pub(crate) fn word(self) -> &'static str {
+        match self {
+            JudgementOutcome::Yes => "yes",
+            JudgementOutcome::Unknown => "unknown",
+            JudgementOutcome::No => "no",
+        }
+    }
+
+    /// The outcome of both together: `No` where one is `No`, else `Unknown` where one is `Unknown`.
+    pub fn with(self, other: JudgementOutcome) -> JudgementOutcome
+        ensures yes { result ≡ Yes → (self ≡ Yes) × (other ≡ Yes) }
+        ensures no { result ≡ No → (self ≡ No) ⊎ (other ≡ No) }
+    {
+        match (self, other) {
+            (JudgementOutcome::Yes, other) => other,
+            (JudgementOutcome::Unknown, JudgementOutcome::Yes | JudgementOutcome::Unknown) =>
+                JudgementOutcome::Unknown,
+            (JudgementOutcome::Unknown, JudgementOutcome::No) | (JudgementOutcome::No, _) =>
+                JudgementOutcome::No,
+        }
+    }
+}
+
+/// The reason why a text is not judged.
+#[derive(Debug, Drop, Error)]
+pub enum JudgeError {
+    /// A request for memory was refused.
+    #[error("no memory")]
+    NoMemory,
+    /// The text is no history, or the other text writes no orders of it. The words say in which line, and why.
+    #[error("{0}")]
+    Bad(String),
+}
+
+impl From<AllocError> for JudgeError {
+    ghost from_gives = { λ error made. made ≡ NoMemory };
+
+    fn from(_error: AllocError) -> JudgeError {
+        JudgeError::NoMemory
+    }
 }

@@ -1,71 +1,148 @@
-//! Orders of calls, as `judge --order` prints them.
-use crate::places::{Mention, Places};
+//! Orders of calls, as `judge --order` prints them, and whether given ones explain a history. A function here that
+//! gives a `Result` answers `AllocError` where a request for memory was refused.
+ghost use Rattle.std.specs.Prelude.{◌≡◌, None, true, All, IfOk};
+ghost use Rattle.judgements.specs.rule.Judgements.{HasOneClock, IsExplained};
+
+use crate::findings::file_name;
+use crate::judged::widened;
+use client_history::explains::explains;
 use history_text::file_calls::FileCalls;
 use history_text::written_history::WrittenHistory;
 use indexmap::IndexMap;
 use std::alloc::{AllocError, Global};
-use texts::text::{after, split_field};
+use std::fmt::Write;
+use texts::number::number_of;
+use texts::text::{after, split_at_first, split_field};
 
-/// The reason why a text writes no orders.
+/// The name of a call in an order: its line, and, where the line has several calls, which of them it is, from 1.
+/// Without that it is the one behind the call of the line that the order named last, or the first one.
 #[derive(Clone, Copy)]
-pub(crate) enum OrdersError {
-    /// A request for memory was refused.
-    NoMemory,
-    /// The line of this number may not stand there.
-    BadLine(u64),
+pub(crate) struct CallName {
+    line: u64,
+    pub(crate) part: Option<u64>,
 }
 
-impl From<AllocError> for OrdersError {
-    fn from(_error: AllocError) -> OrdersError {
-        OrdersError::NoMemory
+impl CallName {
+    // The name that the word writes, as `7` or `7.2`, if it writes one.
+    fn of_word(word: &str) -> Option<CallName> {
+        let (line, part) = match split_at_first(word, b'.') {
+            Some((line, part)) => (line, Some(number_of(part, 1, u64::MAX)?)),
+            None => (word, None),
+        };
+        let line = number_of(line, 1, u64::MAX)?;
+        Some(CallName { line, part })
+    }
+
+    /// Adds the word for the name.
+    pub(crate) fn push(&self, out: &mut String) -> Result<(), AllocError> {
+        let line = self.line;
+        match self.part {
+            Some(part) => write!(out, "{line}.{part}"),
+            None => write!(out, "{line}"),
+        }
+    }
+}
+
+// The calls of one line, which stand one behind the other: the index of the first one, and which of them was named
+// last, from 1; 0 where none was.
+#[derive(Clone, Copy)]
+struct Place {
+    first: usize,
+    named: u64,
+}
+
+// The places of a file's calls, by their lines, before an order names one.
+fn places_of(alloc: Global, file: &FileCalls) -> Result<IndexMap<u64, Place>, AllocError> {
+    let mut places = IndexMap::new(alloc);
+    for (first, line) in file.lines.iter().enumerate() {
+        if !places.contains_key(line) {
+            places.insert(*line, Place { first, named: 0 })?;
+        }
+    }
+    Ok(places)
+}
+
+/// The names of the file's calls with these indexes, in this order.
+pub(crate) fn names_of(
+    alloc: Global,
+    file: &FileCalls,
+    order: &[usize],
+) -> Result<Vec<CallName>, AllocError> {
+    let mut places = places_of(alloc, file)?;
+    let mut names = Vec::new(alloc);
+    for index in order {
+        let line = file.lines.get(*index).copied().unwrap_or(0);
+        let mut part = None;
+        if let Some(place) = places.get_mut(&line) {
+            let this = (index.saturating_sub(place.first) as u64).saturating_add(1);
+            if this != place.named.saturating_add(1) {
+                part = Some(this);
+            }
+            place.named = this;
+        }
+        names.push(CallName { line, part })?;
+    }
+    Ok(names)
+}
+
+// The indexes of the file's calls that the order names; `None` where a name is that of no call of the file.
+fn indexes_of(
+    alloc: Global,
+    file: &FileCalls,
+    order: &[CallName],
+) -> Result<Option<Vec<usize>>, AllocError> {
+    let mut places = places_of(alloc, file)?;
+    let mut indexes = Vec::new(alloc);
+    for name in order {
+        match next_index(file, &mut places, *name) {
+            Some(index) => indexes.push(index)?,
+            None => return Ok(None),
+        }
+    }
+    Ok(Some(indexes))
+}
+
+// The index of the call that the order names next with this name, if there is one.
+fn next_index(
+    file: &FileCalls,
+    places: &mut IndexMap<u64, Place>,
+    name: CallName,
+) -> Option<usize> {
+    let place = places.get_mut(&name.line)?;
+    let part = name.part.unwrap_or(place.named.saturating_add(1));
+    place.named = part;
+    let behind = usize::try_from(part.checked_sub(1)?).ok()?;
+    let index = place.first.checked_add(behind)?;
+    if file.lines.get(index).copied() == Some(name.line) {
+        Some(index)
+    } else {
+        None
     }
 }
 
 /// The orders that the text writes, one for each file of the history, as names of calls; an empty one for a file
 /// without a line. A line writes an order as `order F LINE ..`. Empty lines are passed, and those that begin with
-/// `#`, `history ` and `stats `.
-///
-/// # Errors
-/// `NoMemory` where a request for memory was refused, and `BadLine` with the first line of another kind, or of a file
-/// that the history doesn't have or that had an order before.
+/// `#`, `history ` and `stats `. Else the number of the first line of another kind, or of a file that the history
+/// doesn't have or that had an order before.
 pub(crate) fn orders_of(
     alloc: Global,
     history: &WrittenHistory,
     text: &str,
-) -> Result<Vec<Vec<Mention>>, OrdersError> {
-    let files = files_by_name(alloc, history)?;
-    let mut orders = no_orders(alloc, history)?;
+) -> Result<Result<Vec<Vec<CallName>>, u64>, AllocError> {
+    let mut files = IndexMap::new(alloc);
+    let mut orders = Vec::new(alloc);
+    for file in 0..history.files.len() {
+        files.insert(file_name(history, file), file)?;
+        orders.push(Vec::new(alloc))?;
+    }
     let mut number = 0u64;
     for line in text.lines() {
         number = number.saturating_add(1);
         if !is_passed(line) && !take_order(&files, &mut orders, line)? {
-            return Err(OrdersError::BadLine(number));
+            return Ok(Err(number));
         }
     }
-    Ok(orders)
-}
-
-// The indexes of the history's files, by their names.
-fn files_by_name<'a>(
-    alloc: Global,
-    history: &'a WrittenHistory,
-) -> Result<IndexMap<&'a str, usize>, AllocError> {
-    let mut files = IndexMap::new(alloc);
-    for file in 0..history.names.count() {
-        if let Some(name) = history.names.get(file) {
-            files.insert(name, file)?;
-        }
-    }
-    Ok(files)
-}
-
-// An empty order for each file.
-fn no_orders(alloc: Global, history: &WrittenHistory) -> Result<Vec<Vec<Mention>>, AllocError> {
-    let mut orders = Vec::new(alloc);
-    for _ in &history.files {
-        orders.push(Vec::new(alloc))?;
-    }
-    Ok(orders)
+    Ok(Ok(orders))
 }
 
 // Whether the line says nothing of an order.
@@ -76,75 +153,69 @@ fn is_passed(line: &str) -> bool {
         || line.starts_with("stats ")
 }
 
-// Takes the order that the line writes, if it may stand there.
+// Takes the order that the line writes, if it may stand there and each of its words names a call.
 fn take_order(
     files: &IndexMap<&str, usize>,
-    orders: &mut Vec<Vec<Mention>>,
+    orders: &mut [Vec<CallName>],
     line: &str,
 ) -> Result<bool, AllocError> {
     let Some(rest) = after(line, "order ") else {
         return Ok(false);
     };
-    let (name, words) = split_field(rest).unwrap_or((rest, ""));
-    let Some(file) = files.get(&name) else {
-        return Ok(false);
-    };
-    let Some(order) = orders.get_mut(*file) else {
+    let (file, words) = split_field(rest).unwrap_or((rest, ""));
+    let Some(order) = files.get(&file).and_then(|file| orders.get_mut(*file)) else {
         return Ok(false);
     };
     if !order.is_empty() {
         return Ok(false);
     }
-    push_mentions(order, words)
-}
-
-// Adds the calls that the words name, if each names one.
-fn push_mentions(order: &mut Vec<Mention>, words: &str) -> Result<bool, AllocError> {
     if words.is_empty() {
         return Ok(true);
     }
     for word in words.split(' ') {
-        match Mention::of_word(word) {
-            Some(mention) => order.push(mention)?,
+        match CallName::of_word(word) {
+            Some(name) => order.push(name)?,
             None => return Ok(false),
         }
     }
     Ok(true)
 }
 
-/// The indexes of the file's calls that the order names; `None` where a name is that of no call of the file.
-///
-/// # Errors
-/// `AllocError` where a request for memory was refused.
-pub(crate) fn indexes_of(
+/// The index of the first file whose order does not explain its calls, if there is one.
+pub(crate) fn first_unexplained(
     alloc: Global,
-    file: &FileCalls,
-    order: &[Mention],
-) -> Result<Option<Vec<usize>>, AllocError> {
-    let mut places = Places::new(alloc, file)?;
-    let mut indexes = Vec::new(alloc);
-    for mention in order {
-        match places.next_index(*mention) {
-            Some(index) => indexes.push(index)?,
-            None => return Ok(None),
+    history: &WrittenHistory,
+    orders: &[Vec<CallName>],
+) -> Result<Option<usize>, AllocError>
+    ensures { IfOk result (λ file. file ≡ None → HasOneClock history.now → All IsExplained history.now.files.items) }
+{
+    for file in 0..history.files.len() {
+        let order = match orders.get(file) {
+            Some(order) => order.as_slice(),
+            None => &[],
+        };
+        if !is_explained(alloc, history, &history.files[file], order)? {
+            return Ok(Some(file));
         }
     }
-    Ok(Some(indexes))
+    Ok(None)
 }
 
-/// The names of the file's calls with these indexes, in this order.
-///
-/// # Errors
-/// `AllocError` where a request for memory was refused.
-pub(crate) fn mentions_of(
+// Whether the order explains the calls of a file, each in all the time in which it may have been made.
+fn is_explained(
     alloc: Global,
+    history: &WrittenHistory,
     file: &FileCalls,
-    order: &[usize],
-) -> Result<Vec<Mention>, AllocError> {
-    let mut places = Places::new(alloc, file)?;
-    let mut mentions = Vec::new(alloc);
-    for index in order {
-        mentions.push(places.next_mention(*index))?;
+    order: &[CallName],
+) -> Result<bool, AllocError>
+    ensures { IfOk result (λ yes. yes ≡ true → HasOneClock history.now → IsExplained file.now) }
+{
+    let Some(order) = indexes_of(alloc, file, order)? else {
+        return Ok(false);
+    };
+    if history.has_one_clock() {
+        return explains(alloc, file.calls.as_slice(), order.as_slice());
     }
-    Ok(mentions)
+    let wider = widened(alloc, history, file)?;
+    explains(alloc, wider.calls.as_slice(), order.as_slice())
 }

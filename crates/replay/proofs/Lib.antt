@@ -12,6 +12,5 @@ pub mod Refused
 pub mod Begins
 pub mod LeftFiles
 pub mod Judging
-pub mod AllowedRules
 pub mod Tools
 pub mod NoneStuck

@@ -1,21 +1,28 @@
 //! Histories of clients, judged.
 ghost use Rattle.std.specs.Prelude.{◌≡◌, map, option_map, Some, IfErr, IfOk};
 ghost use Rattle.command_line.specs.rule.JudgeTasks.{judge_task_of};
-ghost use Rattle.replay.specs.rule.Judging.{AreJudged, IsJudgedWith, allowed_of, shown_of};
+ghost use Rattle.replay.specs.rule.Judging.{AreJudged, IsJudgedWith, IsSaidIn, IsSaidOf, allowed_of, shown_of};
 ghost use Rattle.replay.specs.rule.Stores.{SameFiles};
-ghost use Rattle.replay.specs.rule.ToolFaults.{IsToolFault};
+ghost use Rattle.replay.specs.rule.ToolFaults.{IsReportOf, IsToolFault};
 
-use crate::allowing::allowed_of;
 use crate::fault::Fault;
 use crate::input::text_of;
-use crate::judge_text::{OrdersFile, judged_at};
 use crate::shown::Shown;
 use crate::store::Store;
+use command_line::allowed_rule::AllowedRule;
 use command_line::judge_line::JudgeLine;
-use judgements::judgement_outcome::JudgementOutcome;
-use judgements::judging::Judging;
+use history_text::rule::Allowed;
+use judgements::judgement::{Judgement, judge_history, judge_orders};
+use judgements::judging::{JudgeError, JudgementOutcome, Judging};
 use std::alloc::{AllocError, Global};
 use std::fmt::Write;
+
+// Orders that are given, with the path of their file.
+#[derive(Clone, Copy)]
+struct OrdersFile<'a> {
+    path: &'a str,
+    text: &'a str,
+}
 
 /// What is said of the history of each file, by the orders of a file, if one is named; of several histories each line of that
 /// begins with the path.
@@ -46,9 +53,31 @@ fn judging_of(line: &JudgeLine<'_>) -> Judging
         go_on: line.go_on,
         stats: line.stats,
         json: line.json,
-        picture: line.picture,
         allowed: allowed_of(line.allowed.as_slice()),
     }
+}
+
+// The rules that these words of a command line allow.
+fn allowed_of(rules: &[AllowedRule]) -> Allowed
+    ensures { result ≡ allowed_of rules.now }
+{
+    let mut allowed = Allowed {
+        wait_drops: false,
+        close_own_descriptor: false,
+        no_query: false,
+        stale_read_denial: false,
+        lost_at: false,
+    };
+    for rule in rules {
+        match rule {
+            AllowedRule::WaitDrops => allowed.wait_drops = true,
+            AllowedRule::CloseOwnDescriptor => allowed.close_own_descriptor = true,
+            AllowedRule::NoQuery => allowed.no_query = true,
+            AllowedRule::StaleReadDenial => allowed.stale_read_denial = true,
+            AllowedRule::LostAt => allowed.lost_at = true,
+        }
+    }
+    allowed
 }
 
 // The same by the orders of this file.
@@ -94,6 +123,44 @@ fn all_judged<'a, S: Store>(
     Ok(shown_as(outcome, told))
 }
 
+// What is said of the history of a file, by orders, if they are given.
+fn judged_at<'a, S: Store>(
+    alloc: Global,
+    store: &mut S,
+    path: &'a str,
+    given: Option<OrdersFile<'_>>,
+    judging: Judging,
+) -> Result<Judgement, Fault<'a>>
+    ensures done { IfOk result (λ judgement. IsSaidOf judging.allowed (option_map (λ g. g.path.now) given.entry) (S.holds store.old) judgement.outcome path.now) }
+    ensures fault { IfErr result (IsToolFault (S.holds store.old) (λ file. file ≡ path.now)) }
+    ensures files { SameFiles (S.holds store.old) (S.holds store.new) }
+{
+    let text = text_of(alloc, store, path)?;
+    judged_in(alloc, path, text.as_str(), given, judging)
+}
+
+// The same of the text of the file.
+fn judged_in<'a>(
+    alloc: Global,
+    path: &str,
+    text: &str,
+    given: Option<OrdersFile<'_>>,
+    judging: Judging,
+) -> Result<Judgement, Fault<'a>>
+    ensures done { IfOk result (λ judgement. IsSaidIn judging.allowed (option_map (λ g. g.path.now) given.entry) text.now judgement.outcome) }
+    ensures fault { IfErr result IsReportOf }
+{
+    let judged = match given {
+        None => judge_history(alloc, path, text, judging),
+        Some(given) => judge_orders(alloc, path, text, given.path, given.text, judging),
+    };
+    match judged {
+        Ok(judgement) => Ok(judgement),
+        Err(JudgeError::NoMemory) => Err(Fault::NoMemory),
+        Err(JudgeError::Bad(report)) => Err(Fault::Faulty(report)),
+    }
+}
+
 // The text, with the status of what is said.
 fn shown_as(outcome: JudgementOutcome, text: String) -> Shown
     ensures { result ≡ shown_of outcome text }
@@ -107,15 +174,9 @@ fn shown_as(outcome: JudgementOutcome, text: String) -> Shown
 
 // Writes a text, each line of it behind the path of its file if that is to stand there.
 fn push_named(out: &mut String, path: &str, text: &str, named: bool) -> Result<(), AllocError> {
-    if named {
-        push_lines(out, path, text)
-    } else {
-        out.push_str(text)
+    if !named {
+        return out.push_str(text);
     }
-}
-
-// Writes each line of a text behind the path of its file.
-fn push_lines(out: &mut String, path: &str, text: &str) -> Result<(), AllocError> {
     for line in text.lines() {
         writeln!(out, "{path}: {line}")?;
     }

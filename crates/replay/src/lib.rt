@@ -2,7 +2,6 @@
 //! the operating system; it knows no rule of a node or a token server.
 #![tactic(auto)]
 
-mod allowing;
 mod audit;
 mod auditor;
 mod behind;
@@ -17,7 +16,6 @@ mod held_receipts;
 pub mod input;
 pub mod journal_draft;
 mod judge;
-mod judge_text;
 mod listing;
 mod listing_options;
 pub mod meter;

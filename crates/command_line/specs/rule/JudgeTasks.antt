@@ -1,11 +1,11 @@
 -- What a judgement may be asked for.
-use Rattle.std.specs.Prelude.{ℕ, ◌≡◌, ◌≢◌, ⊤, Bool, true, false, List, Option, Some, None, [], codes, length, map, option_map}
+use Rattle.std.specs.Prelude.{ℕ, ◌≡◌, ◌≢◌, Bool, false, List, Option, Some, None, [], codes, length, map, option_map}
 use Rattle.clap.specs.Words.{Text}
 use Rattle.command_line.specs.declared.judge_line.JudgeLine.{JudgeLine}
 use Rattle.command_line.specs.declared.allowed_rule.AllowedRule.{AllowedRule}
 use Rattle.command_line.specs.declared.allowed_rule.AllowedRule.TheVariants.{WaitDrops, CloseOwnDescriptor, NoQuery, StaleReadDenial, LostAt}
 
--- to judge the histories of these paths, looking at so many tables for each file at most, or by the order that the other path names, if there is one; to allow these rules; to print orders, to go on behind what fits nowhere, and to print counts, if that is asked for; as JSON, or as a picture, if that is
+-- to judge the histories of these paths, looking at so many tables for each file at most, or by the order that the other path names, if there is one; to allow these rules; to print orders, to go on behind what fits nowhere, and to print counts, if that is asked for; as JSON, if that is
 pub record JudgeTask : Type 0 where
   pub histories : List Text
   pub steps : ℕ
@@ -15,7 +15,6 @@ pub record JudgeTask : Type 0 where
   pub go_on : Bool
   pub stats : Bool
   pub json : Bool
-  pub picture : Bool
 
 abbrev pub judge_task_of : JudgeLine → JudgeTask
 judge_task_of line = record {
@@ -27,7 +26,6 @@ judge_task_of line = record {
   go_on = line.go_on;
   stats = line.stats;
   json = line.json;
-  picture = line.picture;
 }
 
 -- the word that asks for a rule
@@ -45,12 +43,7 @@ default_steps = 10000000
 -- a history is judged by an order alone: nothing is searched
 abbrev pub MayExplain : Option Text → JudgeTask → Type 0
 MayExplain None t = t.histories ≢ []
-MayExplain (Some file) t = (length t.histories ≡ 1) × (t.steps ≡ default_steps) × (t.order ≡ false) × (t.go_on ≡ false) × (t.picture ≡ false)
-
--- a picture is of one history
-abbrev pub MayDraw : Bool → JudgeTask → Type 0
-MayDraw false t = ⊤
-MayDraw true t = length t.histories ≡ 1
+MayExplain (Some file) t = (length t.histories ≡ 1) × (t.steps ≡ default_steps) × (t.order ≡ false) × (t.go_on ≡ false)
 
 abbrev pub MayJudge : JudgeTask → Type 0
-MayJudge t = MayExplain t.explains t × MayDraw t.picture t
+MayJudge t = MayExplain t.explains t

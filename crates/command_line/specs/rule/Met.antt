@@ -50,7 +50,7 @@ judge_values_in =
       p.0,
       all_of (codes "HISTORY") p.1,
       unwrap_or (all_of (codes "RULE") p.1) [],
-      map (λ read. read p.1) (one_of (codes "N") ∷ first_of (codes "FILE") ∷ one_of (codes "order") ∷ one_of (codes "go-on") ∷ one_of (codes "stats") ∷ one_of (codes "json") ∷ one_of (codes "picture") ∷ []),
+      map (λ read. read p.1) (one_of (codes "N") ∷ first_of (codes "FILE") ∷ one_of (codes "order") ∷ one_of (codes "go-on") ∷ one_of (codes "stats") ∷ one_of (codes "json") ∷ []),
     ))
 
 -- it is the command of the task, with its paths, its numbers and its flags
@@ -67,6 +67,6 @@ IsMet met (judge t) =
       codes "judge",
       Some t.histories,
       map rule_text t.allowed,
-      Some text ∷ t.explains ∷ Some (flag_text t.order) ∷ Some (flag_text t.go_on) ∷ Some (flag_text t.stats) ∷ Some (flag_text t.json) ∷ Some (flag_text t.picture) ∷ [],
+      Some text ∷ t.explains ∷ Some (flag_text t.order) ∷ Some (flag_text t.go_on) ∷ Some (flag_text t.stats) ∷ Some (flag_text t.json) ∷ [],
     ))
     × IsNumber 1 greatest_seed text t.steps × MayJudge t

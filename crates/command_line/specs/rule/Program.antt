@@ -83,7 +83,7 @@ state_app = with_rule (with_rule (new_app (codes "state")) (path_rule (codes "JO
 
 abbrev pub judge_app : App
 judge_app =
-    with_rule (with_rule (with_rule (with_rule (with_rule (with_rule (with_rule (with_rule (with_rule (new_app (codes "judge")) (paths_rule (codes "HISTORY"))) steps_rule) explains_rule) allow_rule) (flag_rule (codes "order"))) (flag_rule (codes "go-on"))) (flag_rule (codes "stats"))) json_rule) (flag_rule (codes "picture"))
+    with_rule (with_rule (with_rule (with_rule (with_rule (with_rule (with_rule (with_rule (new_app (codes "judge")) (paths_rule (codes "HISTORY"))) steps_rule) explains_rule) allow_rule) (flag_rule (codes "order"))) (flag_rule (codes "go-on"))) (flag_rule (codes "stats"))) json_rule
 
 -- no command is no command line
 abbrev pub bare_app : App

@@ -4,9 +4,9 @@ use Rattle.texts.specs.rule.Reads.{IsWithin}
 use Rattle.client_history.specs.declared.act.Act.TheVariants.{Drops}
 use Rattle.client_history.specs.declared.client_call.ClientCall.{ClientCall}
 use Rattle.history_text.specs.declared.file_calls.FileCalls.{FileCalls}
-use Rattle.history_text.specs.declared.life.Exit.{Exit}
-use Rattle.history_text.specs.declared.life.Life.{Life}
-use Rattle.history_text.specs.declared.losses.Loss.{Loss}
+use Rattle.history_text.specs.declared.owners.Exit.{Exit}
+use Rattle.history_text.specs.declared.owners.Life.{Life}
+use Rattle.history_text.specs.declared.drops.Loss.{Loss}
 use Rattle.history_text.specs.declared.rule.Allowed.{Allowed}
 use Rattle.history_text.specs.rule.Files.{IsAlone, calls_in, lines_in, runs}
 use Rattle.history_text.specs.rule.Lives.{HasLife}

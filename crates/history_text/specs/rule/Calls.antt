@@ -2,7 +2,7 @@
 use Rattle.std.specs.Prelude.{ℕ, ◌+◌, ◌++◌, Bool, nat_eq, List, [], ◌∷◌, codes}
 use Rattle.std.specs.List.{starts_with}
 use Rattle.texts.specs.rule.LineFeeds.{line_feed}
-use Rattle.history_text.specs.declared.line_counts.LineCounts.{LineCounts}
+use Rattle.history_text.specs.declared.written_history.LineCounts.{LineCounts}
 
 -- a line with its line feed
 abbrev pub with_feed : List ℕ → List ℕ

@@ -2,8 +2,8 @@
 use Rattle.std.specs.Prelude.{◌≡◌, ℕ, ◌≤◌, List, slice_get, length, Some, IfSome, All}
 use Rattle.model.specs.declared.owner.Owner.{Owner}
 use Rattle.texts.specs.rule.Reads.{IsWithin}
-use Rattle.history_text.specs.declared.life.Exit.{Exit}
-use Rattle.history_text.specs.declared.life.Life.{Life}
+use Rattle.history_text.specs.declared.owners.Exit.{Exit}
+use Rattle.history_text.specs.declared.owners.Life.{Life}
 use Rattle.history_text.specs.rule.Times.{IsTimed}
 use Rattle.history_text.specs.rule.Owners.{AreDistinct, most_owners, owner_numbered}
 

@@ -1,8 +1,8 @@
 -- Losses of the locks of files.
 use Rattle.std.specs.Prelude.{◌≡◌, ℕ, ◌≤◌, true, length, All}
 use Rattle.texts.specs.rule.Reads.{IsWithin}
-use Rattle.history_text.specs.declared.losses.Loss.{Loss}
-use Rattle.history_text.specs.declared.losses.Losses.{Losses}
+use Rattle.history_text.specs.declared.drops.Loss.{Loss}
+use Rattle.history_text.specs.declared.drops.Losses.{Losses}
 use Rattle.history_text.specs.declared.rule.Allowed.{Allowed}
 
 -- a loss in one of that many lines, where the rules let losses count

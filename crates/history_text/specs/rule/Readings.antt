@@ -2,8 +2,8 @@
 use Rattle.std.specs.Prelude.{◌≡◌, ℕ, ◌≤◌, ◌+◌, ◌++◌, max, false, List, flat_map, length, count_by, sum_by, All}
 use Rattle.texts.specs.rule.LineFeeds.{line_feed}
 use Rattle.texts.specs.rule.Reads.{IsWithin, Lacks}
-use Rattle.history_text.specs.declared.call_line.CallBody.{CallBody}
-use Rattle.history_text.specs.declared.call_line.CallBody.TheVariants.{Exits, Asks}
+use Rattle.history_text.specs.declared.known_names.CallBody.{CallBody}
+use Rattle.history_text.specs.declared.known_names.CallBody.TheVariants.{Exits, Asks}
 use Rattle.history_text.specs.declared.known_names.KnownNames.{KnownNames}
 use Rattle.history_text.specs.declared.history_reader.HistoryReader.{HistoryReader}
 use Rattle.history_text.specs.declared.rule.Allowed.{Allowed}
@@ -27,7 +27,7 @@ pub record Learns (line : ℕ) (old new : KnownNames) : Type 0 where
 -- the file of a call is one of those that were known before, or one more
 abbrev pub NamesOf : CallBody → ℕ → ℕ → Type 0
 NamesOf Exits before after = after ≡ before
-NamesOf (Asks file asked) before after = (file ≤ before) × (after ≡ max before (file + 1))
+NamesOf (Asks file operation reply told) before after = (file ≤ before) × (after ≡ max before (file + 1))
 
 -- the reader has read that many lines, where these rules are allowed
 pub record IsRead (allowed : Allowed) (lines : ℕ) (reader : HistoryReader) : Type 0 where
@@ -36,12 +36,12 @@ pub record IsRead (allowed : Allowed) (lines : ℕ) (reader : HistoryReader) : T
   pub files : AreFilesOf reader.known.owners.lives.items lines reader.files.items
   pub calls : sum_by lines_in reader.files.items ≡ reader.counts.calls
   pub alone : allowed.wait_drops ≡ false → All IsAlone reader.files.items
-  pub losses : AreLosses allowed lines reader.losses
+  pub losses : AreLosses allowed lines reader.head.losses
 
 -- there are as many names of files as lists of calls, and of losses
 pub record IsPaired (reader : HistoryReader) : Type 0 where
   pub files : length reader.files.items ≡ length reader.known.files
-  pub losses : ArePaired reader.losses
+  pub losses : ArePaired reader.head.losses
 
 -- the reader has read that many lines of the text, and this rest is left
 pub record HasRead (allowed : Allowed) (text rest : List ℕ) (count : ℕ) (reader : HistoryReader) : Type 0 where

@@ -7,8 +7,8 @@ use Rattle.history_text.specs.declared.rule.Allowed.{Allowed}
 use Rattle.history_text.specs.rule.Histories.{IsHistoryOf}
 use Rattle.judgements.specs.declared.judged.Judged.{Judged}
 use Rattle.judgements.specs.declared.judged.Judged.TheVariants.{Explained, Contradicted, Unknown}
-use Rattle.judgements.specs.declared.judgement_outcome.JudgementOutcome.{JudgementOutcome}
-use Rattle.judgements.specs.declared.judgement_outcome.JudgementOutcome.TheVariants as outcome
+use Rattle.judgements.specs.declared.judging.JudgementOutcome.{JudgementOutcome}
+use Rattle.judgements.specs.declared.judging.JudgementOutcome.TheVariants as outcome
 
 -- an order of the calls of the file explains them
 abbrev pub IsExplained : FileCalls → Type 0
@@ -22,13 +22,13 @@ IsContradicted file = (order : List ℕ) → IsExplainedBy always file.calls.ite
 abbrev pub IsJudged : FileCalls → Judged → Type 0
 IsJudged file (Explained order) = IsExplainedBy always file.calls.items order.items
 IsJudged file (Contradicted misfits unknown) = IsContradicted file
-IsJudged file (Unknown call) = ⊤
+IsJudged file (Unknown line) = ⊤
 
 -- the finding on the calls of a file, in a word
 abbrev pub outcome_of : Judged → JudgementOutcome
 outcome_of (Explained order) = outcome.Yes
 outcome_of (Contradicted misfits unknown) = outcome.No
-outcome_of (Unknown call) = outcome.Unknown
+outcome_of (Unknown line) = outcome.Unknown
 
 -- no clock of a machine is off
 abbrev pub HasOneClock : WrittenHistory → Type 0

@@ -1,28 +1,17 @@
 -- What is said of histories of files.
-use Rattle.std.specs.Prelude.{◌≡◌, ◌⊎◌, ℕ, false, fold, List, All, Any, Contains, Option, Some, None, String}
+use Rattle.std.specs.Prelude.{◌≡◌, ◌⊎◌, ℕ, true, false, fold, List, All, Any, Contains, Option, Some, None, String}
 use Rattle.std.specs.Global.{Global}
 use Rattle.command_line.specs.declared.allowed_rule.AllowedRule.{AllowedRule}
-use Rattle.command_line.specs.declared.allowed_rule.AllowedRule.TheVariants as asked
+use Rattle.command_line.specs.declared.allowed_rule.AllowedRule.TheVariants.{WaitDrops, CloseOwnDescriptor, NoQuery, StaleReadDenial, LostAt}
 use Rattle.history_text.specs.declared.written_history.WrittenHistory.{WrittenHistory}
 use Rattle.history_text.specs.declared.rule.Allowed.{Allowed}
-use Rattle.history_text.specs.declared.rule.Rule.{Rule}
-use Rattle.history_text.specs.declared.rule.Rule.TheVariants.{WaitDrops, CloseOwnDescriptor, NoQuery, StaleReadDenial, LostAt}
-use Rattle.history_text.specs.rule.Rules.{with_rule}
 use Rattle.history_text.specs.rule.Histories.{IsHistoryOf}
-use Rattle.judgements.specs.declared.judgement_outcome.JudgementOutcome.{JudgementOutcome}
-use Rattle.judgements.specs.declared.judgement_outcome.JudgementOutcome.TheVariants as outcome
+use Rattle.judgements.specs.declared.judging.JudgementOutcome.{JudgementOutcome}
+use Rattle.judgements.specs.declared.judging.JudgementOutcome.TheVariants as outcome
 use Rattle.judgements.specs.rule.Judgements.{IsJudgement, IsOrdered}
 use Rattle.replay.specs.declared.shown.Shown.{Shown}
 use Rattle.replay.specs.declared.shown.Shown.TheVariants.{Text, Wanting, Undecided}
 use Rattle.replay.specs.rule.Stores.{Files, HasText}
-
--- the rule of a history that a word of a command line asks for
-abbrev pub rule_of : AllowedRule → Rule
-rule_of asked.WaitDrops = WaitDrops
-rule_of asked.CloseOwnDescriptor = CloseOwnDescriptor
-rule_of asked.NoQuery = NoQuery
-rule_of asked.StaleReadDenial = StaleReadDenial
-rule_of asked.LostAt = LostAt
 
 -- no rule is allowed
 abbrev pub no_rule : Allowed
@@ -30,7 +19,11 @@ no_rule = record { wait_drops = false; close_own_descriptor = false; no_query = 
 
 -- and one more
 abbrev pub with_asked : Allowed → AllowedRule → Allowed
-with_asked allowed rule = with_rule allowed (rule_of rule)
+with_asked allowed WaitDrops = record allowed { wait_drops = true }
+with_asked allowed CloseOwnDescriptor = record allowed { close_own_descriptor = true }
+with_asked allowed NoQuery = record allowed { no_query = true }
+with_asked allowed StaleReadDenial = record allowed { stale_read_denial = true }
+with_asked allowed LostAt = record allowed { lost_at = true }
 
 -- those that are asked for
 abbrev pub allowed_of : List AllowedRule → Allowed

@@ -1,7 +1,7 @@
 use Rattle.std.proofs.Common.{rules, codes, map, option_map, None, Some, [], ◌∷◌, ◌≡◌}
 use Rattle.clap.specs.Words.{found_of, rows_of}
 use Rattle.command_line.specs.rule.JudgeTasks.{JudgeTask}
-use Rattle.command_line.proofs.Unmet.{no_go_on_flag, no_json_flag, no_judge, no_order_flag, no_picture_flag, no_stats_flag, no_steps}
+use Rattle.command_line.proofs.Unmet.{no_go_on_flag, no_json_flag, no_judge, no_order_flag, no_stats_flag, no_steps}
 use Rattle.command_line.proofs.Tables.{same_value}
 use Rattle.command_line.proofs.judge_words.judge_of.Goals as goal
 
@@ -30,11 +30,6 @@ returns-in_err-json c =
     let none : c.from_residual-in_err-json.result ≡ None = search rules in
     rw none (no_json_flag (rows_of (found_of c.args.values.now)) c.in_err-json.ensures)
 
-pub returns-in_err-picture : goal.returns-in_err-picture
-returns-in_err-picture c =
-    let none : c.from_residual-in_err-picture.result ≡ None = search rules in
-    rw none (no_picture_flag (rows_of (found_of c.args.values.now)) c.in_err-picture.ensures)
-
 pub returns-then-not-may_judge : goal.returns-then-not-may_judge
 returns-then-not-may_judge c =
     let found = found_of c.args.values.now in
@@ -44,7 +39,6 @@ returns-then-not-may_judge c =
     let go_on = c.in_ok-go_on.ensures in
     let stats = c.in_ok-stats.ensures in
     let json = c.in_ok-json.ensures in
-    let picture = c.in_ok-picture.ensures in
     let asked : JudgeTask = record {
       histories = map (λ path. path.now) c.args.histories.items;
       steps = c.in_ok-steps.steps;
@@ -54,9 +48,8 @@ returns-then-not-may_judge c =
       go_on = c.in_ok-go_on.go_on;
       stats = c.in_ok-stats.stats;
       json = c.in_ok-json.json;
-      picture = c.in_ok-picture.picture;
     } in
-    no_judge (rows_of found) asked steps.0 (λ i. Some (codes "judge", c.requires.histories i, c.requires.allowed i, steps.1 i ∷ file i ∷ order i ∷ go_on i ∷ stats i ∷ json i ∷ picture i ∷ [])) steps.2 (c.may_judge.ensures.may_not (search rules))
+    no_judge (rows_of found) asked steps.0 (λ i. Some (codes "judge", c.requires.histories i, c.requires.allowed i, steps.1 i ∷ file i ∷ order i ∷ go_on i ∷ stats i ∷ json i ∷ [])) steps.2 (c.may_judge.ensures.may_not (search rules))
 
 pub returns : goal.returns
 returns c =
@@ -67,5 +60,4 @@ returns c =
     let go_on = c.in_ok-go_on.ensures in
     let stats = c.in_ok-stats.ensures in
     let json = c.in_ok-json.ensures in
-    let picture = c.in_ok-picture.ensures in
-    (steps.0, (λ i. Some (codes "judge", c.requires.histories i, c.requires.allowed i, steps.1 i ∷ file i ∷ order i ∷ go_on i ∷ stats i ∷ json i ∷ picture i ∷ [])), steps.2, c.may_judge.ensures.may (search rules))
+    (steps.0, (λ i. Some (codes "judge", c.requires.histories i, c.requires.allowed i, steps.1 i ∷ file i ∷ order i ∷ go_on i ∷ stats i ∷ json i ∷ [])), steps.2, c.may_judge.ensures.may (search rules))

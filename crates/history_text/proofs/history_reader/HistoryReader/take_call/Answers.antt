@@ -1,6 +1,6 @@
 use Rattle.std.proofs.Common.{ℕ, ◌+◌, ◌≤◌, List, refl, ap, sym, subst, ◌∙◌, arith}
 use Rattle.texts.specs.rule.Reads.{IsWithin}
-use Rattle.history_text.specs.declared.life.Life.{Life}
+use Rattle.history_text.specs.declared.owners.Life.{Life}
 use Rattle.history_text.specs.rule.Files.{IsCallOf}
 use Rattle.history_text.specs.code.Steps.{IsWhole}
 use Rattle.history_text.proofs.FileLaws.{files_extend}

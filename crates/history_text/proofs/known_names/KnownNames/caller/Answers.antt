@@ -9,7 +9,7 @@ begin_call-requires-clause-owners c = (c.in_ok-owner.ensures.learns 0).sound.own
 pub returns-in-Ok-clause-learns : goal.returns-in-Ok-clause-learns
 returns-in-Ok-clause-learns c = λ line.
     let mid : KnownNames = c.named_owner.new.self in
-    let end : KnownNames = record { machines = mid.machines; owners = c.begin_call.new.self; files = mid.files } in
+    let end : KnownNames = record { owners = c.begin_call.new.self; files = mid.files } in
     let first : Learns line c.args.self.now mid = c.in_ok-owner.ensures.learns line in
     let second : Learns line mid end = record {
       sound = record { owners = c.in-Ok.ensures.owners; files = first.sound.files };

@@ -1,6 +1,0 @@
-//! Elements of SVG.
-#![tactic(auto)]
-
-pub mod elements;
-pub mod escapes;
-pub mod point;
