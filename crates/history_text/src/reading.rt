@@ -3,12 +3,9 @@ ghost use Rattle.std.specs.Prelude.{[], IfOk};
 ghost use Rattle.history_text.specs.rule.Histories.{IsHistoryOf};
 ghost use Rattle.history_text.specs.rule.Readings.{HasRead};
 
-use crate::error::{BadWord, ReadError};
+use crate::error::{BadWord, LineError, ReadError};
 use crate::files::end_files;
-use crate::head::Head;
 use crate::history_reader::HistoryReader;
-use crate::known_names::KnownNames;
-use crate::line_words::LineWords;
 use crate::rule::Allowed;
 use crate::written_history::WrittenHistory;
 use std::alloc::Global;
@@ -62,24 +59,13 @@ pub fn read(alloc: Global, text: &str, allowed: Allowed) -> Result<WrittenHistor
         counts,
     } = reader;
     if !head.is_read {
-        return Err(
-            LineWords::of("")
-                .fault(BadWord::NoHead)
-                .at(count.saturating_add(1), ""),
-        );
+        return Err(LineError::Bad(0, BadWord::NoHead).at(count.saturating_add(1), ""));
     }
     end_files(alloc, &mut files, &known.files, &known.owners, &head.losses)?;
-    let (
-        Head { machines, .. },
-        KnownNames {
-            owners,
-            files: names,
-        },
-    ) = (head, known);
     Ok(WrittenHistory {
-        machines,
-        owners: owners.names,
-        names,
+        machines: head.machines,
+        owners: known.owners.names,
+        names: known.files,
         files,
         counts,
     })
@@ -100,8 +86,7 @@ fn read_lines(
     while !rest.is_empty() {
         let number = count + 1;
         let Some((line, behind)) = split_at_first(rest, b'\n') else {
-            let unfinished = LineWords::of("").fault(BadWord::Unfinished);
-            return Err(unfinished.at(number, rest));
+            return Err(LineError::Bad(0, BadWord::Unfinished).at(number, rest));
         };
         match reader.take(alloc, allowed, number, line) {
             Ok(()) => {}

@@ -8,13 +8,6 @@ use model::mode::Mode;
 use model::owner::Owner;
 use std::alloc::{AllocError, Global};
 
-/// The number of locks of a file that were got, and the number of them that were observed.
-#[derive(Clone, Copy)]
-pub(crate) struct GotLocks {
-    pub(crate) got: u64,
-    pub(crate) observed: u64,
-}
-
 // A lock that an owner got by a set or a wait that is done, and the time in which it may be held: from the begin of
 // that call to the end of the call that gives it up, or for ever. The call that gives it up is the next one, by their
 // begins, in which its owner sets, unlocks or drops a byte of it.
@@ -33,7 +26,7 @@ struct TimedLock {
 /// names an owner observes locks of that owner alone.
 ///
 /// It looks at each denial once for each lock that is not observed yet and may be held then.
-pub(crate) fn got_by(alloc: Global, calls: &[ClientCall]) -> Result<GotLocks, AllocError> {
+pub(crate) fn got_by(alloc: Global, calls: &[ClientCall]) -> Result<(u64, u64), AllocError> {
     let sorted = by_begin(alloc, calls)?;
     let held = held_in(alloc, &sorted)?;
     let mut unseen: Vec<TimedLock> = Vec::new(alloc);
@@ -61,8 +54,7 @@ pub(crate) fn got_by(alloc: Global, calls: &[ClientCall]) -> Result<GotLocks, Al
             observed = observed.saturating_add(before.saturating_sub(unseen.len()) as u64);
         }
     }
-    let got = held.len() as u64;
-    Ok(GotLocks { got, observed })
+    Ok((held.len() as u64, observed))
 }
 
 // The calls by their begins; those that begin at one time keep their order.

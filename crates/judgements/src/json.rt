@@ -1,7 +1,7 @@
 //! The judgement of a history as JSON. A function here that gives a `Result` answers `AllocError` where a request for
 //! memory was refused.
 use crate::findings::{Findings, Found, file_name, length_of};
-use crate::got_locks::{GotLocks, got_by};
+use crate::got_locks::got_by;
 use crate::judged::{Judged, Misfit};
 use crate::orders::names_of;
 use crate::tables::Before;
@@ -167,7 +167,7 @@ fn push_stats(out: &mut String, all: &Findings<'_>) -> Result<(), AllocError> {
     push_number(out, "machines", history.machines.len() as u64)?;
     push_key(out, "locks", "[")?;
     for (file, of_file) in history.files.iter().enumerate() {
-        let GotLocks { got, observed } = got_by(all.alloc, &of_file.calls)?;
+        let (got, observed) = got_by(all.alloc, &of_file.calls)?;
         open(out, "{")?;
         push_text(out, "file", file_name(history, file))?;
         push_number(out, "locks", got)?;

@@ -1,7 +1,7 @@
 //! The judgement of a history in lines. A function here that gives a `Result` answers `AllocError` where a request
 //! for memory was refused.
 use crate::findings::{Findings, Found, file_name, length_of};
-use crate::got_locks::{GotLocks, got_by};
+use crate::got_locks::got_by;
 use crate::judged::{Judged, Misfit};
 use crate::judging::JudgementOutcome;
 use crate::orders::names_of;
@@ -171,7 +171,7 @@ fn push_stats(out: &mut String, all: &Findings<'_>) -> Result<(), AllocError> {
         "stats calls {calls} exits {exits} silent {silent} files {files} owners {owners} machines {machines}"
     )?;
     for (file, of_file) in history.files.iter().enumerate() {
-        let GotLocks { got, observed } = got_by(all.alloc, &of_file.calls)?;
+        let (got, observed) = got_by(all.alloc, &of_file.calls)?;
         let (name, never) = (file_name(history, file), got.saturating_sub(observed));
         writeln!(
             out,

@@ -36,10 +36,11 @@ pub(crate) fn table_before(
             if taken.is_last {
                 gone.push(taken.owner)?;
             }
-            mark(&mut is_passed, *index);
+        }
+        if let Some(mark) = is_passed.get_mut(*index) {
+            *mark = true;
         }
     }
-    mark(&mut is_passed, call);
     let (in_way, until) = match file.calls.get(call) {
         Some(this) => (in_way(&table, this), this.end.unwrap_or(u64::MAX)),
         None => (None, 0),
@@ -47,15 +48,8 @@ pub(crate) fn table_before(
     Ok(Before {
         locks: table.locks(FILE)?,
         in_way,
-        open: open_lines(alloc, file, until, &is_passed, &gone)?,
+        open: open_lines(alloc, file, call, until, &is_passed, &gone)?,
     })
-}
-
-// Marks the call with this index as passed.
-fn mark(is_passed: &mut [bool], call: usize) {
-    if let Some(mark) = is_passed.get_mut(call) {
-        *mark = true;
-    }
 }
 
 // Makes the act of the call in the table.
@@ -81,10 +75,12 @@ fn in_way(table: &LockTable, call: &ClientCall) -> Option<LockInfo> {
     }
 }
 
-// The lines of the open calls: those that begin by that time and are not passed, without calls of owners that are gone.
+// The lines of the open calls: those that begin by that time and are not passed, without this one, and without calls
+// of owners that are gone.
 fn open_lines(
     alloc: Global,
     file: &FileCalls,
+    this: usize,
     until: u64,
     is_passed: &[bool],
     gone: &[Owner],
