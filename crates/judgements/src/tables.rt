@@ -41,6 +41,9 @@ pub(crate) fn table_before(
             *mark = true;
         }
     }
+    if let Some(mark) = is_passed.get_mut(call) {
+        *mark = true;
+    }
     let (in_way, until) = match file.calls.get(call) {
         Some(this) => (in_way(&table, this), this.end.unwrap_or(u64::MAX)),
         None => (None, 0),
@@ -48,7 +51,7 @@ pub(crate) fn table_before(
     Ok(Before {
         locks: table.locks(FILE)?,
         in_way,
-        open: open_lines(alloc, file, call, until, &is_passed, &gone)?,
+        open: open_lines(alloc, file, until, &is_passed, &gone)?,
     })
 }
 
@@ -75,12 +78,10 @@ fn in_way(table: &LockTable, call: &ClientCall) -> Option<LockInfo> {
     }
 }
 
-// The lines of the open calls: those that begin by that time and are not passed, without this one, and without calls
-// of owners that are gone.
+// The lines of the open calls: those that begin by that time and are not passed, without calls of owners that are gone.
 fn open_lines(
     alloc: Global,
     file: &FileCalls,
-    this: usize,
     until: u64,
     is_passed: &[bool],
     gone: &[Owner],
