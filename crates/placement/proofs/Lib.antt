@@ -1,12 +1,7 @@
 pub mod Rises
 pub mod CallIndexes
 pub mod Index
-pub mod KeptSlots
 pub mod Locating
-pub mod Once
 pub mod Placing
-pub mod Placements
 pub mod Replays
 pub mod Waits
-pub mod CallsMade
-pub mod Rests

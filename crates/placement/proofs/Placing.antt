@@ -1,9 +1,9 @@
 -- The slots of a run, as it goes on by one entry.
-use Rattle.std.proofs.Common.{◌≡◌, ℕ, ◌+◌, ◌<◌, ◌≤◌, refl, sym, ◌∙◌, ap, subst, arith, List, [], ◌∷◌, ◌++◌, length, length-append, take, get_or, slice_get, slice_set, All, Option, Some, None, is_some}
+use Rattle.std.proofs.Common.{◌≡◌, ℕ, zero, suc, ◌+◌, ◌<◌, ◌≤◌, refl, sym, ◌∙◌, ap, subst, arith, List, [], ◌∷◌, ◌++◌, length, length-append, take, get_or, slice_get, slice_set, All, Option, Some, None, is_some}
 use Rattle.std.specs.HashMap.{get}
-use Rattle.std.specs.List.{cons_option, filter_map}
+use Rattle.std.specs.List.{cons_option}
 use Rattle.std.proofs.Math.Seq.{set-append_seam}
-use Rattle.std.proofs.lemmas.List.{take_more, take_all, length-take-le, length-set, length-map, map-append, map-set}
+use Rattle.std.proofs.lemmas.List.{take_more, take_all, length-take-le, length-set}
 use Rattle.std.proofs.lemmas.List.Elements.{filter_map-append}
 use Rattle.std.proofs.lemmas.Option.{slice_get-get_or}
 use Rattle.model.specs.declared.call.CallId.{CallId}
@@ -17,14 +17,11 @@ use Rattle.cluster_core.specs.code.Placement.{Slots, find_call, item_of, filled,
 use Rattle.cluster_core.proofs.history.Slots.{slots_of-push}
 use Rattle.placement.specs.declared.slot.Slot.{Slot}
 use Rattle.placement.specs.declared.slot.Slot.TheVariants.{Empty}
-use Rattle.placement.specs.declared.kept_slot.KeptSlot.{KeptSlot}
 use Rattle.placement.specs.declared.revoke_id.RevokeId.{RevokeId}
 use Rattle.placement.specs.declared.call_index.CallIndex.{CallIndex}
 use Rattle.placement.specs.code.CallIndexes.{entry_of}
-use Rattle.placement.specs.code.KeptSlots.{slot_in, slots_in}
 use Rattle.placement.specs.code.Indexes.{Conflicts, Indexes, KnowsDenial, Locates, AreBefore, same_revoke, told_at, slot_of, call_at}
 use Rattle.placement.specs.code.Standing.{answered_so, answered_by, stands, standing}
-use Rattle.placement.proofs.KeptSlots.{length-slots_in, slots_in-push}
 use Rattle.placement.proofs.Locating.{denial_known, located_before, located_none}
 use Rattle.placement.proofs.Index.{indexes_start}
 
@@ -57,12 +54,35 @@ module _ (es : List Entry) (slots : Slots) (e : Entry) (id : CallId) (reply : Re
   answer_unplaced : (wide : Slots) (found : Option ℕ) → wide ≡ slots ++ None ∷ [] → found ≡ slot_of es own event → found ≡ None → wide ≡ slots_after es slots e e.reply
   answer_unplaced wide found wider is none = wider ∙ sym (slots_filled None (sym none ∙ is))
 
--- the items of one slot more
-standing-push : (all : List Entry) (slots : List Slot) (s : Slot) → standing all (slots ++ s ∷ []) ≡ standing all slots ++ stands all s ∷ []
-standing-push all slots s = map-append (stands all) slots (s ∷ [])
+-- the items of one slot more, and of another in the place of one
+standing-push : (all : List Entry) (k : ℕ) (slots : List Slot) (s : Slot) → standing all k (slots ++ s ∷ []) ≡ standing all k slots ++ stands all (k + length slots) s ∷ []
+standing-push all k [] s =
+    let here : k ≡ k + 0 = omega arith in
+    ap (λ (n : ℕ). stands all n s ∷ []) here
+standing-push all k (d ∷ ds) s =
+    let place : k + 1 + length ds ≡ k + length (d ∷ ds) = omega arith in
+    ap (λ (os : List (Option Item)). stands all k d ∷ os) (standing-push all (k + 1) ds s ∙ ap (λ (n : ℕ). standing all (k + 1) ds ++ stands all n s ∷ []) place)
 
-length-standing : (all : List Entry) (slots : List Slot) → length (standing all slots) ≡ length slots
-length-standing all slots = length-map slots (stands all)
+standing-set : (all : List Entry) (k : ℕ) (slots : List Slot) (i : ℕ) (s : Slot) → standing all k (slice_set slots i s) ≡ slice_set (standing all k slots) i (stands all (k + i) s)
+standing-set all k [] i s = refl
+standing-set all k (d ∷ ds) zero s =
+    let here : k ≡ k + 0 = omega arith in
+    ap (λ (n : ℕ). stands all n s ∷ standing all (k + 1) ds) here
+standing-set all k (d ∷ ds) (suc i) s =
+    let place : k + 1 + i ≡ k + suc i = omega arith in
+    ap (λ (os : List (Option Item)). stands all k d ∷ os) (standing-set all (k + 1) ds i s ∙ ap (λ (n : ℕ). slice_set (standing all (k + 1) ds) i (stands all n s)) place)
+
+length-standing : (all : List Entry) (k : ℕ) (slots : List Slot) → length (standing all k slots) ≡ length slots
+length-standing all k [] = refl
+length-standing all k (s ∷ ss) =
+    let rest = length-standing all (k + 1) ss in
+    omega arith
+
+-- of a run from its first entry on
+pushed_from_first : (all : List Entry) (slots : List Slot) (s : Slot) → standing all 0 (slots ++ s ∷ []) ≡ standing all 0 slots ++ stands all (length slots) s ∷ []
+pushed_from_first all slots s =
+    let place : 0 + length slots ≡ length slots = omega arith in
+    standing-push all 0 slots s ∙ ap (λ (n : ℕ). standing all 0 slots ++ stands all n s ∷ []) place
 
 -- a call of the index that an entry answers
 pub slot_answers : (all es : List Entry) (calls : CallIndex) (at k : ℕ) (e : Entry) (r : CallId × Reply) (found : Option ℕ) → Indexes all calls es → found ≡ entry_of calls r.0 → slice_get all k ≡ Some e → e.reply ≡ Some r → answered_by at (call_at all found) (slice_get all k) ≡ item_of at r.0 r.1 (find_call es r.0)
@@ -73,22 +93,31 @@ slot_answers all es calls at k e r found indexed got there replies =
 
 -- an entry that answers a call
 module _ (all es : List Entry) (slots wide : List Slot) (e : Entry) (r : CallId × Reply) (own : ℕ) (event : Event) (found : Option ℕ) (long : length es ≡ length slots) (replies : e.reply ≡ Some r) (own_is : own ≡ length slots) (event_is : event ≡ e.event) (wider : wide ≡ slots ++ Empty ∷ []) (is : found ≡ slot_of es own event) where
-  pub answers_some : (index : ℕ) (s : Slot) → found ≡ Some index → stands all s ≡ item_of (index + 1) r.0 r.1 (find_call (es ++ e ∷ []) r.0) → standing all (slice_set wide index s) ≡ slots_after es (standing all slots) e e.reply
-  answers_some index s some made =
-      map-set (stands all) wide index s
-      ∙ answer_placed es (standing all slots) e r.0 r.1 own event (long ∙ sym (length-standing all slots)) replies (own_is ∙ sym (length-standing all slots)) event_is (standing all wide) found index (stands all s) (ap (standing all) wider ∙ standing-push all slots Empty) is some made
+  many : length slots ≡ length (standing all 0 slots)
+  many = sym (length-standing all 0 slots)
 
-  pub answers_nowhere : found ≡ None → standing all wide ≡ slots_after es (standing all slots) e e.reply
+  grown : standing all 0 wide ≡ standing all 0 slots ++ None ∷ []
+  grown = ap (standing all 0) wider ∙ pushed_from_first all slots Empty
+
+  pub answers_some : (index : ℕ) (s : Slot) → found ≡ Some index → stands all index s ≡ item_of (index + 1) r.0 r.1 (find_call (es ++ e ∷ []) r.0) → standing all 0 (slice_set wide index s) ≡ slots_after es (standing all 0 slots) e e.reply
+  answers_some index s some made =
+      let here : 0 + index ≡ index = omega arith in
+      standing-set all 0 wide index s
+      ∙ (ap (λ (n : ℕ). slice_set (standing all 0 wide) index (stands all n s)) here
+      ∙ answer_placed es (standing all 0 slots) e r.0 r.1 own event (long ∙ many) replies (own_is ∙ many) event_is (standing all 0 wide) found index (stands all index s) grown is some made)
+
+  pub answers_nowhere : found ≡ None → standing all 0 wide ≡ slots_after es (standing all 0 slots) e e.reply
   answers_nowhere none =
-      answer_unplaced es (standing all slots) e r.0 r.1 own event (long ∙ sym (length-standing all slots)) replies (own_is ∙ sym (length-standing all slots)) event_is (standing all wide) found (ap (standing all) wider ∙ standing-push all slots Empty) is none
+      answer_unplaced es (standing all 0 slots) e r.0 r.1 own event (long ∙ many) replies (own_is ∙ many) event_is (standing all 0 wide) found grown is none
 
 -- an entry that answers no call
-pub answers_none : (all es : List Entry) (slots wide : List Slot) (s : Slot) (e : Entry) → length es ≡ length slots → e.reply ≡ None → stands all s ≡ gone_at (length slots + 1) e.incarnation e.event → wide ≡ slots ++ s ∷ [] → standing all wide ≡ slots_after es (standing all slots) e e.reply
-answers_none all es slots wide s e long none stood wider =
-    ap (standing all) wider
-    ∙ (standing-push all slots s
-    ∙ (ap (λ (o : Option Item). standing all slots ++ o ∷ []) (stood ∙ ap (λ (n : ℕ). gone_at (n + 1) e.incarnation e.event) (sym long))
-    ∙ ap (slots_after es (standing all slots) e) (sym none)))
+pub answers_none : (all es : List Entry) (slots wide : List Slot) (s : Slot) (e : Entry) (own : ℕ) → length es ≡ length slots → e.reply ≡ None → own ≡ length slots → stands all own s ≡ gone_at (own + 1) e.incarnation e.event → wide ≡ slots ++ s ∷ [] → standing all 0 wide ≡ slots_after es (standing all 0 slots) e e.reply
+answers_none all es slots wide s e own long none own_is stood wider =
+    ap (standing all 0) wider
+    ∙ (pushed_from_first all slots s
+    ∙ (ap (λ (n : ℕ). standing all 0 slots ++ stands all n s ∷ []) (sym own_is)
+    ∙ (ap (λ (o : Option Item). standing all 0 slots ++ o ∷ []) (stood ∙ ap (λ (n : ℕ). gone_at (n + 1) e.incarnation e.event) (own_is ∙ sym long))
+    ∙ ap (slots_after es (standing all 0 slots) e) (sym none))))
 
 -- one element more
 length-push : {A : Type 0} (xs : List A) (x : A) → length (xs ++ x ∷ []) ≡ length xs + 1
@@ -114,27 +143,26 @@ length-slots_from past slots (e ∷ es) =
     omega arith
 
 -- the indexes and the slots so far, of a run with all these entries
-pub record Placing (all past : List Entry) (calls : CallIndex) (conflicts : Conflicts) (slots : List KeptSlot) : Type 0 where
+pub record Placing (all past : List Entry) (calls : CallIndex) (conflicts : Conflicts) (slots : List Slot) : Type 0 where
   pub indexed : Indexes all calls past
   pub located : Locates conflicts past
   pub known : All (λ e. KnowsDenial conflicts e.event) all
-  pub placed : standing all (slots_in 0 slots) ≡ slots_of past
+  pub placed : standing all 0 slots ≡ slots_of past
 
-pub length-placed : (all past : List Entry) (slots : List KeptSlot) → standing all (slots_in 0 slots) ≡ slots_of past → length slots ≡ length past
+pub length-placed : (all past : List Entry) (slots : List Slot) → standing all 0 slots ≡ slots_of past → length slots ≡ length past
 length-placed all past slots placed =
     let whole = length-slots_from [] [] past in
-    let each = length-slots_in 0 slots in
-    let long : length (slots_in 0 slots) ≡ length (slots_of past) = sym (length-standing all (slots_in 0 slots)) ∙ ap length placed in
+    let long : length slots ≡ length (slots_of past) = sym (length-standing all 0 slots) ∙ ap length placed in
     omega arith
 
-length-placing : (all past : List Entry) (calls : CallIndex) (conflicts : Conflicts) (slots : List KeptSlot) → Placing all past calls conflicts slots → length slots ≡ length past
+length-placing : (all past : List Entry) (calls : CallIndex) (conflicts : Conflicts) (slots : List Slot) → Placing all past calls conflicts slots → length slots ≡ length past
 length-placing all past calls conflicts slots p = length-placed all past slots p.placed
 
-pub placing_empty : (all : List Entry) (calls : CallIndex) (conflicts : Conflicts) (slots : List KeptSlot) → ((id : CallId) → entry_of calls id ≡ None) → ((r : RevokeId) → told_at (get same_revoke conflicts r) ≡ None) → All (λ e. KnowsDenial conflicts e.event) all → slots ≡ [] → Placing all [] calls conflicts slots
-placing_empty all calls conflicts slots none untold known empty = record { indexed = indexes_start all calls none; located = located_none conflicts untold; known = known; placed = ap (λ (ss : List KeptSlot). standing all (slots_in 0 ss)) empty }
+pub placing_empty : (all : List Entry) (calls : CallIndex) (conflicts : Conflicts) (slots : List Slot) → ((id : CallId) → entry_of calls id ≡ None) → ((r : RevokeId) → told_at (get same_revoke conflicts r) ≡ None) → All (λ e. KnowsDenial conflicts e.event) all → slots ≡ [] → Placing all [] calls conflicts slots
+placing_empty all calls conflicts slots none untold known empty = record { indexed = indexes_start all calls none; located = located_none conflicts untold; known = known; placed = ap (λ (ss : List Slot). standing all 0 ss) empty }
 
 -- one entry more of the run
-module _ (es : List Entry) (i : ℕ) (e : Entry) (calls : CallIndex) (conflicts : Conflicts) (slots : List KeptSlot) (lt : i < length es) (p : Placing es (take i es) calls conflicts slots) where
+module _ (es : List Entry) (i : ℕ) (e : Entry) (calls : CallIndex) (conflicts : Conflicts) (slots : List Slot) (lt : i < length es) (p : Placing es (take i es) calls conflicts slots) where
   length-take : length (take i es) ≡ i
   length-take = length-take-le i es (omega arith)
 
@@ -147,7 +175,7 @@ module _ (es : List Entry) (i : ℕ) (e : Entry) (calls : CallIndex) (conflicts 
   pub known_here : e ≡ get_or es i e → KnowsDenial conflicts e.event
   known_here is = subst (λ (d : Entry). KnowsDenial conflicts d.event) (sym is) (p.known i e lt)
 
-  pub placing_more : (next : CallIndex) (told : Conflicts) (more : List KeptSlot) → e ≡ get_or es i e → ((all past : List Entry) → slice_get all i ≡ Some e → Indexes all calls past → Indexes all next (past ++ e ∷ [])) → ((all past : List Entry) → slice_get all (length slots) ≡ Some e → length past ≡ length slots → Indexes all next (past ++ e ∷ []) → Locates conflicts past → standing all (slots_in 0 more) ≡ slots_after past (standing all (slots_in 0 slots)) e e.reply) → ((past : List Entry) → length past ≡ i → Locates conflicts past → Locates told (past ++ e ∷ [])) → ((r : RevokeId) → is_some (get same_revoke told r) ≡ is_some (get same_revoke conflicts r)) → Placing es (take (i + 1) es) next told more
+  pub placing_more : (next : CallIndex) (told : Conflicts) (more : List Slot) → e ≡ get_or es i e → ((all past : List Entry) → slice_get all i ≡ Some e → Indexes all calls past → Indexes all next (past ++ e ∷ [])) → ((all past : List Entry) → slice_get all (length slots) ≡ Some e → length past ≡ length slots → Indexes all next (past ++ e ∷ []) → Locates conflicts past → standing all 0 more ≡ slots_after past (standing all 0 slots) e e.reply) → ((past : List Entry) → length past ≡ i → Locates conflicts past → Locates told (past ++ e ∷ [])) → ((r : RevokeId) → is_some (get same_revoke told r) ≡ is_some (get same_revoke conflicts r)) → Placing es (take (i + 1) es) next told more
   placing_more next told more is indexes answers locates keeps =
       let past = take i es in
       let there : slice_get es i ≡ Some e = slice_get-get_or es i e lt ∙ ap (λ (x : Entry). Some x) (sym is) in
@@ -163,29 +191,25 @@ module _ (es : List Entry) (i : ℕ) (e : Entry) (calls : CallIndex) (conflicts 
       })
 
 -- all entries of the run
-pub placing_whole : (es : List Entry) (i : ℕ) (calls : CallIndex) (conflicts : Conflicts) (slots : List KeptSlot) → length es ≤ i → Placing es (take i es) calls conflicts slots → standing es (slots_in 0 slots) ≡ slots_of es
+pub placing_whole : (es : List Entry) (i : ℕ) (calls : CallIndex) (conflicts : Conflicts) (slots : List Slot) → length es ≤ i → Placing es (take i es) calls conflicts slots → standing es 0 slots ≡ slots_of es
 placing_whole es i calls conflicts slots all p = p.placed ∙ ap slots_of (take_all i es all)
 
--- the items in the slots
-items_in-standing : (all : List Entry) (slots : List Slot) → items_in (standing all slots) ≡ filter_map (stands all) slots
-items_in-standing all [] = refl
-items_in-standing all (s ∷ ss) = ap (cons_option (stands all s)) (items_in-standing all ss)
-
-pub items_all : (all : List Entry) (kept : List KeptSlot) (i : ℕ) (items : List Item) → length kept ≤ i → items ≡ filter_map (stands all) (slots_in 0 (take i kept)) → items ≡ items_in (standing all (slots_in 0 kept))
-items_all all kept i items past so_far = so_far ∙ (ap (λ (ks : List KeptSlot). filter_map (stands all) (slots_in 0 ks)) (take_all i kept past) ∙ sym (items_in-standing all (slots_in 0 kept)))
-
 -- one slot more is read
-pub items_more : (all : List Entry) (kept : List KeptSlot) (i : ℕ) (d : KeptSlot) (items : List Item) (o : Option Item) → i < length kept → o ≡ stands all (slot_in i (get_or kept i d)) → items ≡ filter_map (stands all) (slots_in 0 (take i kept)) → items ++ cons_option o [] ≡ filter_map (stands all) (slots_in 0 (take (i + 1) kept))
-items_more all kept i d items o lt stood so_far =
-    let s = get_or kept i d in
-    let past = slots_in 0 (take i kept) in
-    let many = length-take-le i kept (omega arith) in
-    let place : 0 + length (take i kept) ≡ i = omega arith in
-    let grown : slots_in 0 (take (i + 1) kept) ≡ past ++ slot_in i s ∷ [] =
-    ap (slots_in 0) (take_more kept i d lt)
-    ∙ (slots_in-push 0 (take i kept) s
-    ∙ ap (λ (n : ℕ). past ++ slot_in n s ∷ []) place) in
+pub standing_more : (all : List Entry) (slots : List Slot) (i : ℕ) (d : Slot) → i < length slots → standing all 0 (take (i + 1) slots) ≡ standing all 0 (take i slots) ++ stands all i (get_or slots i d) ∷ []
+standing_more all slots i d lt =
+    let past = take i slots in
+    ap (standing all 0) (take_more slots i d lt)
+    ∙ (pushed_from_first all past (get_or slots i d)
+    ∙ ap (λ (n : ℕ). standing all 0 past ++ stands all n (get_or slots i d) ∷ []) (length-take-le i slots (omega arith)))
+
+-- the items in the slots, with one slot more
+pub items_more : (all : List Entry) (slots : List Slot) (i : ℕ) (d : Slot) (items : List Item) (o : Option Item) → i < length slots → o ≡ stands all i (get_or slots i d) → items ≡ items_in (standing all 0 (take i slots)) → items ++ cons_option o [] ≡ items_in (standing all 0 (take (i + 1) slots))
+items_more all slots i d items o lt stood so_far =
+    let past = standing all 0 (take i slots) in
     ap (λ (xs : List Item). xs ++ cons_option o []) so_far
-    ∙ (ap (λ (x : Option Item). filter_map (stands all) past ++ cons_option x []) stood
-    ∙ (sym (filter_map-append (stands all) past (slot_in i s ∷ []))
-    ∙ ap (filter_map (stands all)) (sym grown)))
+    ∙ (ap (λ (x : Option Item). items_in past ++ cons_option x []) stood
+    ∙ (sym (filter_map-append (λ (slot : Option Item). slot) past (stands all i (get_or slots i d) ∷ []))
+    ∙ ap items_in (sym (standing_more all slots i d lt))))
+
+pub items_all : (all : List Entry) (slots : List Slot) (i : ℕ) (items : List Item) → length slots ≤ i → items ≡ items_in (standing all 0 (take i slots)) → items ≡ items_in (standing all 0 slots)
+items_all all slots i items past so_far = so_far ∙ ap (λ (ss : List Slot). items_in (standing all 0 ss)) (take_all i slots past)

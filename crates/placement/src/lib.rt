@@ -5,12 +5,7 @@
 mod answers;
 mod call_index;
 pub mod history;
-mod indexed_call;
-mod kept_slot;
 pub mod legal;
-mod made;
 pub mod placed;
-pub mod placed_entries;
-pub mod placed_run;
 mod revoke_id;
-mod slot;
+pub mod slot;

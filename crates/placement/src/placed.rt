@@ -7,18 +7,15 @@ ghost use Rattle.std.specs.HashMap.{get};
 ghost use Rattle.cluster_core.specs.rule.World.{journal_limit};
 ghost use Rattle.cluster_core.specs.rule.Safe.{LeadsToSafe};
 ghost use Rattle.cluster_core.specs.rule.Histories.{HasHistory, EachAtItsPlace};
-ghost use Rattle.cluster_core.specs.code.Placement.{find_call, gone_at, item_of, slots_after, slots_of, items_in, history_of};
+ghost use Rattle.cluster_core.specs.code.Placement.{find_call, gone_at, item_of, slots_after, slots_of, items_in};
 ghost use Rattle.placement.specs.declared.revoke_id.RevokeId.{RevokeId};
 ghost use Rattle.placement.specs.code.Indexes.{Indexes, Locates, Notes, AreBefore, KnowsDenial, same_revoke, denied, told_at, slot_of};
 ghost use Rattle.placement.specs.code.Standing.{stands, standing};
-ghost use Rattle.placement.specs.code.KeptSlots.{slot_in, slots_in};
-ghost use Rattle.placement.specs.code.Rests.{IsAhead, AreAhead};
 
 use crate::call_index::CallIndex;
 use crate::history::History;
-use crate::kept_slot::KeptSlot;
 use crate::revoke_id::RevokeId;
-use crate::slot::gone_at;
+use crate::slot::{Slot, gone_at};
 use cluster_core::item::Item;
 use cluster_core::journal::Journal;
 use messages::entry::Entry;
@@ -47,25 +44,29 @@ pub fn placed(alloc: Global, journal: &Journal) -> Result<History, AllocError>
     // After the run tokens of two nodes don't conflict, and locks are covered by tokens.
     ensures safe { LeadsToSafe journal.now.shape journal.now.entries }
 {
-    let version = journal.shape().version();
-    let items = items_of(alloc, journal.entries())?;
-    Ok(History::of_rising(version, items))
+    let slots = places(alloc, journal)?;
+    let items = items_in(alloc, journal.entries(), slots.as_slice())?;
+    Ok(History::of_rising(journal.shape().version(), items))
 }
 
-// The items of the history of these entries.
-fn items_of(alloc: Global, entries: &[Entry]) -> Result<Vec<Item>, AllocError>
-    requires { length entries.now ≤ journal_limit }
-    ensures { IfOk result (λ items. items.items ≡ history_of entries.now) }
+/// What stands in that history at each entry of the journal. An item is made when it is asked for.
+///
+/// # Errors
+/// `AllocError` where a request for memory was refused.
+pub fn places(alloc: Global, journal: &Journal) -> Result<Vec<Slot>, AllocError>
+    ensures stands { IfOk result (λ slots. standing journal.now.entries 0 slots.items ≡ slots_of journal.now.entries) }
+    ensures few { IfOk result (λ slots. length slots.items ≤ journal_limit) }
+    ensures history { HasHistory journal.now.shape journal.now.entries (items_in (slots_of journal.now.entries)) }
+    ensures at_places { EachAtItsPlace journal.now.entries (items_in (slots_of journal.now.entries)) }
 {
-    let slots = slots_of(alloc, entries)?;
-    items_in(alloc, entries, slots.as_slice())
+    let _ = journal.shape(); // tells the proof that the shape is one that is served
+    slots_of(alloc, journal.entries())
 }
 
 // The slots of the history, one for each entry, made in two passes over the entries: the first finds the denials.
-pub(crate) fn slots_of(alloc: Global, entries: &[Entry]) -> Result<Vec<KeptSlot>, AllocError>
+fn slots_of(alloc: Global, entries: &[Entry]) -> Result<Vec<Slot>, AllocError>
     requires { length entries.now ≤ journal_limit }
-    ensures placed { IfOk result (λ slots. standing entries.now (slots_in 0 slots.items) ≡ slots_of entries.now) }
-    ensures ahead { IfOk result (λ slots. AreAhead 0 (slots_in 0 slots.items)) }
+    ensures { IfOk result (λ slots. standing entries.now 0 slots.items ≡ slots_of entries.now) }
 {
     let mut calls = CallIndex::new(alloc);
     let mut conflicts = denials(alloc, entries)?;
@@ -184,7 +185,7 @@ fn note_conflict(
 // Appends the slot of an entry that comes after those of `conflicts`. If the entry answers a call of `calls`, the
 // call goes to its place.
 fn answer(
-    slots: &mut Vec<KeptSlot>,
+    slots: &mut Vec<Slot>,
     calls: &CallIndex,
     conflicts: &Conflicts,
     entry: &Entry,
@@ -192,15 +193,14 @@ fn answer(
     requires room { length slots.now.items < journal_limit }
     requires before { AreBefore conflicts.now (length slots.now.items) }
     requires known { KnowsDenial conflicts.now entry.now.event }
-    ensures ahead { OnOk result (AreAhead 0 (slots_in 0 slots.old.items) → AreAhead 0 (slots_in 0 slots.new.items)) }
-    ensures standing { OnOk result ((all es : List Entry) → slice_get all (length slots.old.items) ≡ Some entry.now → length es ≡ length slots.old.items → Indexes all calls.now (es ++ entry.now ∷ []) → Locates conflicts.now es → standing all (slots_in 0 slots.new.items) ≡ slots_after es (standing all (slots_in 0 slots.old.items)) entry.now entry.now.reply) }
+    ensures { OnOk result ((all es : List Entry) → slice_get all (length slots.old.items) ≡ Some entry.now → length es ≡ length slots.old.items → Indexes all calls.now (es ++ entry.now ∷ []) → Locates conflicts.now es → standing all 0 slots.new.items ≡ slots_after es (standing all 0 slots.old.items) entry.now entry.now.reply) }
 {
     let own = slots.len();
     let Some(answered) = entry.reply() else {
         slots.push(slot_of_failure(entry, own as u32))?;
         return Ok(());
     };
-    slots.push(KeptSlot::empty())?;
+    slots.push(Slot::Empty)?;
     if let Some(index) = slot_of(conflicts, own, entry.event()) {
         slots[index] = slot_at(calls, answered.0, own as u32);
     }
@@ -208,15 +208,14 @@ fn answer(
 }
 
 // The slot of an entry with that index that answers no call: it may declare the failure of a node.
-fn slot_of_failure(entry: &Entry, index: u32) -> KeptSlot
+fn slot_of_failure(entry: &Entry, index: u32) -> Slot
     requires { index < journal_limit }
-    ensures ahead { (k : ℕ) → k ≤ index → IsAhead k (slot_in index result) }
-    ensures stands { (all : List Entry) → slice_get all index ≡ Some entry.now → stands all (slot_in index result) ≡ gone_at (index + 1) entry.now.incarnation entry.now.event }
+    ensures { (all : List Entry) → slice_get all index ≡ Some entry.now → stands all index result ≡ gone_at (index + 1) entry.now.incarnation entry.now.event }
 {
     if gone_at(index + 1, entry).is_none() {
-        return KeptSlot::empty();
+        return Slot::Empty;
     }
-    KeptSlot::declared()
+    Slot::Declared
 }
 
 // The slot for the call that an entry with this event answers: a denied call stands at the first entry that sent the
@@ -238,25 +237,23 @@ fn slot_of(conflicts: &Conflicts, own: usize, event: &Event) -> Option<usize>
 }
 
 // The slot, wherever it is, of a call of the index, which the entry with the index `reply` answers.
-fn slot_at(calls: &CallIndex, id: CallId, reply: u32) -> KeptSlot
-    requires { reply < journal_limit }
-    ensures ahead { (at k : ℕ) → k ≤ reply → IsAhead k (slot_in at result) }
-    ensures stands { (at : ℕ) (all es : List Entry) → Indexes all calls.now es → (e : Entry) (r : CallId × Reply) → slice_get all reply ≡ Some e → e.reply ≡ Some r → r.0 ≡ id → stands all (slot_in at result) ≡ item_of (at + 1) r.0 r.1 (find_call es r.0) }
+fn slot_at(calls: &CallIndex, id: CallId, reply: u32) -> Slot
+    ensures { (at : ℕ) (all es : List Entry) → Indexes all calls.now es → (e : Entry) (r : CallId × Reply) → slice_get all reply ≡ Some e → e.reply ≡ Some r → r.0 ≡ id → stands all at result ≡ item_of (at + 1) r.0 r.1 (find_call es r.0) }
 {
     match calls.get(id) {
-        Some(call) => KeptSlot::answered(call, reply),
-        None => KeptSlot::empty(),
+        Some(call) => Slot::Answered { call, reply },
+        None => Slot::Empty,
     }
 }
 
 // The items in the slots, in order.
-fn items_in(alloc: Global, entries: &[Entry], slots: &[KeptSlot]) -> Result<Vec<Item>, AllocError>
+fn items_in(alloc: Global, entries: &[Entry], slots: &[Slot]) -> Result<Vec<Item>, AllocError>
     requires { length slots.now ≤ journal_limit }
-    ensures { IfOk result (λ items. items.items ≡ items_in (standing entries.now (slots_in 0 slots.now))) }
+    ensures { IfOk result (λ items. items.items ≡ items_in (standing entries.now 0 slots.now)) }
 {
     let mut items = Vec::new(alloc);
-    for (index, kept) in slots.iter().enumerate() {
-        if let Some(item) = kept.slot(index).item(entries) {
+    for (index, slot) in slots.iter().enumerate() {
+        if let Some(item) = slot.item(entries, index) {
             items.push(item)?;
         }
     }

@@ -1,5 +1,6 @@
 //! A slot of a history: what stands at an entry of a run.
-ghost use Rattle.std.specs.Prelude.{◌≡◌};
+ghost use Rattle.std.specs.Prelude.{◌≡◌, ◌<◌};
+ghost use Rattle.cluster_core.specs.rule.World.{journal_limit};
 ghost use Rattle.cluster_core.specs.code.Calls.{called_by};
 ghost use Rattle.cluster_core.specs.code.Placement.{gone_at};
 ghost use Rattle.placement.specs.code.Standing.{answered_so, stands};
@@ -9,37 +10,26 @@ use messages::entry::Entry;
 use messages::event::{Event, MemberEvent, NodeInput};
 use model::op::Op;
 
-/// What stands at an entry: nothing; the failure of a node, which an entry declares; or a call, which one entry makes
-/// and another answers. Entries are named by their indexes, from 0, and the position counts from 1.
+/// What stands at an entry: nothing; the failure of a node, which the entry declares; or a call, which one entry makes
+/// and another answers, each named by its index, from 0.
 #[derive(Clone, Copy)]
-pub(crate) enum Slot {
+pub enum Slot {
     Empty,
-    Declared {
-        position: u32,
-        entry: u32,
-    },
-    Answered {
-        position: u32,
-        call: u32,
-        reply: u32,
-    },
+    Declared,
+    Answered { call: u32, reply: u32 },
 }
 
 impl Slot {
-    /// The item in the slot, if one stands there.
-    pub(crate) fn item(&self, entries: &[Entry]) -> Option<Item>
-        ensures { result ≡ stands entries.now self.now }
+    /// The item that stands at the entry with that index, which has this slot, if one does. Its position is one more.
+    pub fn item(&self, entries: &[Entry], index: usize) -> Option<Item>
+        requires { index < journal_limit }
+        ensures { result ≡ stands entries.now index self.now }
     {
+        let position = index as u32 + 1;
         match *self {
             Slot::Empty => None,
-            Slot::Declared { position, entry } => {
-                gone_at(position, entries.get(entry as usize)?)
-            }
-            Slot::Answered {
-                position,
-                call,
-                reply,
-            } => {
+            Slot::Declared => gone_at(position, entries.get(index)?),
+            Slot::Answered { call, reply } => {
                 let made = made_by(entries.get(call as usize)?)?;
                 answered_at(position, made, entries.get(reply as usize)?)
             }
@@ -62,7 +52,7 @@ pub(crate) fn gone_at(position: u32, entry: &Entry) -> Option<Item>
 }
 
 // The process and the operation of the call that the entry makes, if it makes one.
-pub(crate) fn made_by(entry: &Entry) -> Option<(u16, Op)>
+fn made_by(entry: &Entry) -> Option<(u16, Op)>
     ensures { result ≡ called_by entry.now.event None }
 {
     let Event::AtNode(_, NodeInput::Call { pid, op }) = entry.event() else {
@@ -72,7 +62,7 @@ pub(crate) fn made_by(entry: &Entry) -> Option<(u16, Op)>
 }
 
 // The item at that position of the call that the entry answers, with this process and operation.
-pub(crate) fn answered_at(position: u32, made: (u16, Op), entry: &Entry) -> Option<Item>
+fn answered_at(position: u32, made: (u16, Op), entry: &Entry) -> Option<Item>
     ensures { result ≡ answered_so position (Some made) entry.now.reply }
 {
     let (id, reply) = entry.reply()?;

@@ -1,18 +1,19 @@
 -- Drafts that get more bytes.
-use Rattle.std.proofs.Common.{◌≡◌, ℕ, ◌+◌, List, [], ◌∷◌, ◌++◌, codes, length, reverse, refl, sym, ◌∙◌, ap, subst, append_assoc, append-nil, Some, Result, Ok, Err}
-use Rattle.std.specs.Prelude.{◌≢◌, IfOk, OnOk}
-use Rattle.std.proofs.lemmas.List.{reverse-append}
+use Rattle.std.proofs.Common.{◌≡◌, ℕ, ◌+◌, List, [], ◌∷◌, ◌++◌, codes, length, refl, sym, ◌∙◌, ap, subst, append_assoc, append-nil, Option, Some, None}
+use Rattle.std.specs.Prelude.{◌≢◌}
 use Rattle.journal_text.specs.rule.Journals.{end_text, entries_text, entry_text, head_text, journal_text}
+use Rattle.journal_text.specs.rule.Readings.{WritesJournal}
+use Rattle.cluster_core.specs.rule.Journals.{JournalFields}
 use Rattle.messages.specs.declared.entry.Entry.{Entry}
 use Rattle.messages.specs.declared.version.Version.{Version}
 use Rattle.messages.specs.rule.Shapes.{ShapeFields}
 use Rattle.command_line.specs.rule.Tasks.{Task, journal_path}
 use Rattle.replay.specs.declared.fault.Fault.{Fault}
 use Rattle.replay.specs.declared.fault.Fault.TheVariants as fault
-use Rattle.replay.specs.rule.Commands.{HasRunOf, IsFault, IsInputFault}
-use Rattle.replay.specs.rule.Faults.{IsUnwritten}
+use Rattle.replay.specs.rule.Commands.{HasRunOf, IsFault, IsInputFault, IsReadFrom, KeepsJournal}
+use Rattle.replay.specs.rule.Faults.{IsUnkept, IsUnwritten}
 use Rattle.replay.specs.rule.Stores.{Adds, Drafted, Files, SameFiles, SameOthers}
-use Rattle.replay.proofs.Stores.{others-after, same-after}
+use Rattle.replay.proofs.Stores.{others-after, same, same-after}
 
 -- no bytes came
 pub adds_none : (draft : Drafted) → Adds draft draft []
@@ -31,11 +32,6 @@ pub lacks_less : (old mid new : Drafted) (whole part rest left : List ℕ) → L
 lacks_less old mid new whole part rest left lacks is more =
     (lacks.0 ++ part, adds_more old mid new lacks.0 part lacks.1 more, append_assoc lacks.0 part rest ∙ (ap (λ (bytes : List ℕ). lacks.0 ++ bytes) (sym is) ∙ lacks.2))
 
--- the text of entries, the first of which is the last of a list
-pub entries_less : (version : Version) (position : ℕ) (whole rest : List Entry) (first : Entry) → whole ≡ rest ++ (first ∷ []) → entries_text version position (reverse whole) ≡ entry_text version position first ++ entries_text version (position + 1) (reverse rest)
-entries_less version position whole rest first is =
-    ap (λ (es : List Entry). entries_text version position (reverse es)) is ∙ ap (λ (es : List Entry). entries_text version position es) (reverse-append rest (first ∷ []))
-
 -- the first line, the entries and the last line of a journal were written one after the other
 pub journal_added : (old headed filled new : Drafted) (s head : ShapeFields) (version : Version) (entries written : List Entry) (count : ℕ) → head ≡ s → version ≡ s.version → written ≡ entries → count ≡ length entries → Adds old headed (head_text head ++ codes "\n") → Adds headed filled (entries_text version 1 written) → Adds filled new (end_text count ++ codes "\n") → Adds old new (journal_text s entries)
 journal_added old headed filled new s head version entries written count same_shape same_version same_entries same_count begun went ended =
@@ -48,7 +44,7 @@ journal_added old headed filled new s head version entries written count same_sh
     (adds_more old filled new front (end_text (length entries) ++ end) (adds_more old headed filled (head_text s ++ end) (entries_text s.version 1 entries) first lines) last)
 
 -- why the journal that is made beside what a run shows took no file's place is a fault of the run
-pub journal_fault : (old begun new : Files) (RanShort : Type 0) (Refuses : List ℕ → Type 0) (task : Task) (path : List ℕ) (f : Fault) → SameFiles old begun → journal_path task ≡ Some path → HasRunOf old task → IsInputFault old RanShort task fault.NoMemory → IsUnwritten begun Refuses path new f → (f ≢ fault.CannotWriteOutput) × IsFault old RanShort Refuses task new f
+journal_fault : (old begun new : Files) (RanShort : Type 0) (Refuses : List ℕ → Type 0) (task : Task) (path : List ℕ) (f : Fault) → SameFiles old begun → journal_path task ≡ Some path → HasRunOf old task → IsInputFault old RanShort task fault.NoMemory → IsUnwritten begun Refuses path new f → (f ≢ fault.CannotWriteOutput) × IsFault old RanShort Refuses task new f
 journal_fault old begun new RanShort Refuses task path (fault.CannotWrite named reason) same owed has short is =
     let at = sym is.0 in
     (λ e. absurd (cc), (owed ∙ ap (λ (p : List ℕ). Some p) at, has, subst Refuses at is.1, subst (SameOthers old new) at (others-after old begun new path same is.2)))
@@ -59,3 +55,34 @@ journal_fault old begun new RanShort Refuses task path fault.CannotWriteOutput s
 journal_fault old begun new RanShort Refuses task path fault.JournalFull same owed has short is = absurd is
 journal_fault old begun new RanShort Refuses task path fault.OldJournal same owed has short is = absurd is
 journal_fault old begun new RanShort Refuses task path (fault.Faulty report) same owed has short is = absurd is
+
+-- no file changed before
+pub unwritten-after : (old mid new : Files) (Refuses : List ℕ → Type 0) (path : List ℕ) (f : Fault) → SameFiles old mid → IsUnwritten mid Refuses path new f → IsUnwritten old Refuses path new f
+unwritten-after old mid new Refuses path (fault.CannotWrite named reason) same is = (is.0, is.1, others-after old mid new path same is.2)
+unwritten-after old mid new Refuses path fault.NoMemory same is = same-after old mid new same is
+unwritten-after old mid new Refuses path (fault.BadLine line) same is = absurd is
+unwritten-after old mid new Refuses path (fault.CannotRead named reason) same is = absurd is
+unwritten-after old mid new Refuses path fault.CannotWriteOutput same is = absurd is
+unwritten-after old mid new Refuses path fault.JournalFull same is = absurd is
+unwritten-after old mid new Refuses path fault.OldJournal same is = absurd is
+unwritten-after old mid new Refuses path (fault.Faulty report) same is = absurd is
+
+pub kept-after : (old mid new : Files) (to : Option (List ℕ)) (text : List ℕ) → SameFiles old mid → KeepsJournal mid to text new → KeepsJournal old to text new
+kept-after old mid new None text same kept = same-after old mid new same kept
+kept-after old mid new (Some path) text same kept = (kept.0, others-after old mid new path same kept.1)
+
+-- memory was short before the journal was begun
+pub unkept-short : (files : Files) (Refuses : List ℕ → Type 0) (to : Option (List ℕ)) → IsUnkept files Refuses to files fault.NoMemory
+unkept-short files Refuses None = (refl, same files)
+unkept-short files Refuses (Some path) = same files
+
+-- a journal that is read as itself, where it is written
+pub read-from : (to : Option (List ℕ)) (j : JournalFields) → WritesJournal (journal_text j.shape j.entries) j.shape j.entries → IsReadFrom to j
+read-from None j reads = tt
+read-from (Some path) j reads = reads
+
+-- why the journal was not kept is a fault of the run
+pub unkept-fault : (old begun new : Files) (RanShort : Type 0) (Refuses : List ℕ → Type 0) (task : Task) (to : Option (List ℕ)) (f : Fault) → SameFiles old begun → journal_path task ≡ to → HasRunOf old task → IsInputFault old RanShort task fault.NoMemory → IsUnkept begun Refuses to new f → (f ≢ fault.CannotWriteOutput) × IsFault old RanShort Refuses task new f
+unkept-fault old begun new RanShort Refuses task None f same owed has short is =
+    subst (λ (g : Fault). (g ≢ fault.CannotWriteOutput) × IsFault old RanShort Refuses task new g) (sym is.0) (λ e. absurd (cc), (short, same-after old begun new same is.1))
+unkept-fault old begun new RanShort Refuses task (Some path) f same owed has short is = journal_fault old begun new RanShort Refuses task path f same owed has short is

@@ -69,6 +69,12 @@ had-fault old new RanShort path j JournalFull same is = (is.0, had-text old new 
 had-fault old new RanShort path j OldJournal same is = absurd is
 had-fault old new RanShort path j (Faulty report) same is = absurd is
 
+-- a script of a file that did not change came to this behind the run of a journal, by another name
+pub had-compared : (old new : Files) (script : List ℕ) (journal j : JournalFields) (compares calm telling : Bool) (played : PlayedState) → journal ≡ j → SameFiles old new → HasComparedRunBehind (new script) journal compares calm played telling → HasComparedRunBehind (old script) j compares calm played telling
+had-compared old new script journal j compares calm telling played same files has =
+    let is = subst (λ (k : JournalFields). HasComparedRunBehind (new script) k compares calm played telling) same has in
+    (is.0, is.1, had-text old new script _ files is.2, is.3)
+
 -- behind the run of the journal
 pub going-fault : (old new : Files) (RanShort : Type 0) (script after : List ℕ) (journal j : JournalFields) (fault : Fault) → HasNewJournal (old after) j → journal ≡ j → IsRun j.shape j.entries → SameFiles old new
     → IsBehindFault journal (new script) RanShort script fault → IsGoingFault old RanShort script after fault

@@ -1,15 +1,19 @@
 -- The sections of a listing, one after the other.
-use Rattle.std.proofs.Common.{◌≡◌, ℕ, refl, sym, ◌∙◌, ap, subst, List, [], ◌∷◌, ◌++◌, append_assoc, append-nil, Option, Some, None}
+use Rattle.std.proofs.Common.{◌≡◌, ◌<◌, ◌≤◌, ◌+◌, ℕ, refl, sym, ◌∙◌, ap, List, [], ◌++◌, append_assoc, get_or, length, take, Option}
 use Rattle.std.specs.Prelude.{flat_map}
 use Rattle.std.specs.List.{cons_option}
+use Rattle.std.proofs.lemmas.List.{take_all}
+use Rattle.std.proofs.lemmas.List.Concat.{flat_map-append}
 use Rattle.messages.specs.declared.entry.Entry.{Entry}
 use Rattle.cluster_core.specs.declared.held_lock.HeldLock.{HeldLock}
 use Rattle.cluster_core.specs.declared.item.Item.{Item}
 use Rattle.cluster_core.specs.declared.node_token_run.NodeTokenRun.{NodeTokenRun}
-use Rattle.cluster_core.specs.rule.Journals.{JournalFields}
 use Rattle.cluster_core.specs.code.Placement.{items_in}
 use Rattle.lockscript.specs.declared.refused_line.RefusedLine.{RefusedLine}
 use Rattle.lockscript.specs.rule.Listing.{listing_text, listing_start, history_line, history_text}
+use Rattle.placement.specs.declared.slot.Slot.{Slot}
+use Rattle.placement.specs.code.Standing.{stands, standing}
+use Rattle.placement.proofs.Placing.{items_more}
 use Rattle.player.specs.rule.Played.{PlayedState}
 use Rattle.replay.specs.rule.Audits.{IsHistoryText}
 use Rattle.replay.specs.rule.Scripts.{IsListing, IsListingBegun}
@@ -20,7 +24,7 @@ whole_listing refused entries tokens locks history start text begun whole =
     whole ∙ (ap (λ (bytes : List ℕ). bytes ++ history_text history) begun ∙ simp append_assoc refl)
 
 -- a listing that is begun, with the history of the run behind it, is the listing of the run
-listing_goes_on : (played : PlayedState) (start told text : List ℕ) → IsListingBegun played start → IsHistoryText played.journal told → text ≡ start ++ told → IsListing played text
+pub listing_goes_on : (played : PlayedState) (start told text : List ℕ) → IsListingBegun played start → IsHistoryText played.journal told → text ≡ start ++ told → IsListing played text
 listing_goes_on played start told text begun h is = record {
   tokens = begun.tokens;
   locks = begun.locks;
@@ -29,19 +33,15 @@ listing_goes_on played start told text begun h is = record {
   sections = whole_listing played.refused played.journal.entries begun.tokens begun.locks h.0 start text begun.start (is ∙ ap (λ (bytes : List ℕ). start ++ bytes) h.3);
 }
 
--- so is it where the history is of the run's journal, by another name
-pub run_shown : (played : PlayedState) (j : JournalFields) (start told text : List ℕ) → IsListingBegun played start → j ≡ played.journal → IsHistoryText j told → text ≡ start ++ told → IsListing played text
-run_shown played j start told text begun same h text_is = listing_goes_on played start told text begun (subst (λ (i : JournalFields). IsHistoryText i told) same h) text_is
+-- what stands at one more entry is told
+pub item_told : (all : List Entry) (slots : List Slot) (i : ℕ) (d : Slot) (start out more : List ℕ) (o : Option Item) → i < length slots → o ≡ stands all i (get_or slots i d) → out ≡ start ++ flat_map history_line (items_in (standing all 0 (take i slots))) → more ≡ out ++ flat_map history_line (cons_option o []) → more ≡ start ++ flat_map history_line (items_in (standing all 0 (take (i + 1) slots)))
+item_told all slots i d start out more o lt stood so_far told =
+    let past = items_in (standing all 0 (take i slots)) in
+    let lines : List Item → List ℕ = λ items. flat_map history_line items in
+    told
+    ∙ (ap (λ (bytes : List ℕ). bytes ++ lines (cons_option o [])) so_far
+    ∙ (append_assoc start (lines past) (lines (cons_option o []))
+    ∙ ap (λ (bytes : List ℕ). start ++ bytes) (sym (flat_map-append history_line past (cons_option o [])) ∙ ap lines (items_more all slots i d past o lt stood refl))))
 
--- what stands at one more entry
-pub items_go_on : (first : Option Item) (rest : List (Option Item)) → flat_map history_line (items_in (first ∷ rest)) ≡ flat_map history_line (cons_option first []) ++ flat_map history_line (items_in rest)
-items_go_on None rest = refl
-items_go_on (Some item) rest = ap (λ (line : List ℕ). line ++ flat_map history_line (items_in rest)) (sym (append-nil (history_line item)))
-
-pub item_told : (start out more : List ℕ) (whole rest : List (Option Item)) (first : Option Item) → out ++ flat_map history_line (items_in whole) ≡ start → whole ≡ first ∷ rest → more ≡ out ++ flat_map history_line (cons_option first []) → more ++ flat_map history_line (items_in rest) ≡ start
-item_told start out more whole rest first so_far is told =
-    let behind = flat_map history_line (items_in rest) in
-    ap (λ (bytes : List ℕ). bytes ++ behind) told
-    ∙ (append_assoc out (flat_map history_line (cons_option first [])) behind
-    ∙ (ap (λ (bytes : List ℕ). out ++ bytes) (sym (items_go_on first rest))
-    ∙ (ap (λ (items : List (Option Item)). out ++ flat_map history_line (items_in items)) (sym is) ∙ so_far)))
+pub items_told : (all : List Entry) (slots : List Slot) (i : ℕ) (start out : List ℕ) → length slots ≤ i → out ≡ start ++ flat_map history_line (items_in (standing all 0 (take i slots))) → out ≡ start ++ flat_map history_line (items_in (standing all 0 slots))
+items_told all slots i start out past so_far = so_far ∙ ap (λ (ss : List Slot). start ++ flat_map history_line (items_in (standing all 0 ss))) (take_all i slots past)

@@ -1,2 +1,1 @@
-pub mod LaterRuns
 pub mod Comparing

@@ -22,7 +22,6 @@ use cluster_core::world::JOURNAL_LIMIT;
 use journal_text::parse::{is_old, measure, read_each, shape_of};
 use messages::entry::Entry;
 use messages::shape::Shape;
-use placement::placed_run::PlacedRun;
 use player::watcher::Watcher;
 use run_clients::text::clients_text;
 use std::alloc::{AllocError, Global};
@@ -153,8 +152,8 @@ pub(crate) fn checked<'a, S: Store>(
     ensures fault { IfErr result (IsJournalFault (S.holds store.old path.now) (S.ran_short store.new) path.now) }
     ensures files { SameFiles (S.holds store.old) (S.holds store.new) }
 {
-    let (shape, entries) = entries_of(alloc, store, path)?;
-    audit_of(alloc, shape, entries)
+    let text = text_of(alloc, store, path)?;
+    audited(alloc, text)
 }
 
 // What an audit of the journal of a file comes to, behind which a run is to go on. One of version 1 is
@@ -168,7 +167,20 @@ pub(crate) fn checked_new<'a, S: Store>(
     ensures fault { IfErr result (IsOldFault (S.holds store.old path.now) (S.ran_short store.new) path.now) }
     ensures files { SameFiles (S.holds store.old) (S.holds store.new) }
 {
-    let (shape, entries) = new_entries_of(alloc, store, path)?;
+    let text = text_of(alloc, store, path)?;
+    if is_old(text.as_str()) {
+        return Err(Fault::OldJournal);
+    }
+    audited(alloc, text)
+}
+
+// What an audit of the journal that the text writes comes to. The text goes once its entries are read.
+fn audited<'a>(alloc: Global, text: String) -> Result<Audited, Fault<'a>>
+    ensures audited { IfOk result (λ audited. (j : JournalFields) × WritesFew (string_bytes text) j × IsAudited j audited) }
+    ensures fault { IfErr result (IsTextFault (string_bytes text)) }
+{
+    let (shape, entries) = entries_in(alloc, text.as_str())?;
+    drop(text);
     audit_of(alloc, shape, entries)
 }
 
@@ -184,38 +196,6 @@ fn audit_of<'a>(alloc: Global, shape: Shape, entries: Vec<Entry>) -> Result<Audi
         Err(CheckError::JournalFull) => Err(Fault::JournalFull),
         Err(CheckError::NoMemory) => Err(Fault::NoMemory),
     }
-}
-
-// The shape and the entries of the journal of version 2 that a file writes. Its text goes.
-fn new_entries_of<'a, S: Store>(
-    alloc: Global,
-    store: &mut S,
-    path: &'a str,
-) -> Result<(Shape, Vec<Entry>), Fault<'a>>
-    ensures entries { IfOk result (λ made. HasNewJournal (S.holds store.old path.now) (record { shape = made.0; entries = made.1.items })) }
-    ensures fault { IfErr result (IsOldFault (S.holds store.old path.now) (S.ran_short store.new) path.now) }
-    ensures files { SameFiles (S.holds store.old) (S.holds store.new) }
-{
-    let text = text_of(alloc, store, path)?;
-    let text = text.as_str();
-    if is_old(text) {
-        return Err(Fault::OldJournal);
-    }
-    entries_in(alloc, text)
-}
-
-// The shape and the entries of the journal that a file writes. Its text goes.
-fn entries_of<'a, S: Store>(
-    alloc: Global,
-    store: &mut S,
-    path: &'a str,
-) -> Result<(Shape, Vec<Entry>), Fault<'a>>
-    ensures entries { IfOk result (λ made. HasJournal (S.holds store.old path.now) (record { shape = made.0; entries = made.1.items })) }
-    ensures fault { IfErr result (IsJournalFault (S.holds store.old path.now) (S.ran_short store.new) path.now) }
-    ensures files { SameFiles (S.holds store.old) (S.holds store.new) }
-{
-    let text = text_of(alloc, store, path)?;
-    entries_in(alloc, text.as_str())
 }
 
 // The shape and the entries of the journal that the text writes. Where memory is short, what is wrong with the
@@ -252,16 +232,15 @@ fn history_text(alloc: Global, journal: Journal, as_clients: bool) -> Result<Str
     if as_clients {
         clients_text(alloc, journal)
     } else {
-        history_of(alloc, journal)
+        history_of(alloc, &journal)
     }
 }
 
 // The history of a run as text.
-fn history_of(alloc: Global, journal: Journal) -> Result<String, AllocError>
-    ensures { IfOk result (λ text. IsHistoryText journal (string_bytes text)) }
+fn history_of(alloc: Global, journal: &Journal) -> Result<String, AllocError>
+    ensures { IfOk result (λ text. IsHistoryText journal.now (string_bytes text)) }
 {
-    let run = PlacedRun::new(alloc, journal)?;
     let mut text = String::new(alloc);
-    push_history_of(&mut text, alloc, run)?;
+    push_history_of(&mut text, alloc, journal)?;
     Ok(text)
 }

@@ -90,16 +90,15 @@ fn put_reason<E: Output>(
     path: &str,
     reason: FileReason,
 ) -> Result<(), WriteFailed> {
-    let mut line_room = Buffer::new();
-    let mut column_room = Buffer::new();
-    let words = reason.words(&mut line_room, &mut column_room);
     err.put(start.as_bytes())?;
     err.put(path.as_bytes())?;
     err.put(b": ")?;
-    err.put(words.front.as_bytes())?;
-    err.put(words.line.as_bytes())?;
-    err.put(words.between.as_bytes())?;
-    err.put(words.column.as_bytes())?;
+    err.put(reason.words().as_bytes())?;
+    if let FileReason::NotText { line, column } = reason {
+        err.put(Buffer::new().format(line).as_bytes())?;
+        err.put(b", column ")?;
+        err.put(Buffer::new().format(column).as_bytes())?;
+    }
     err.put(b"\n")
 }
 

@@ -1,5 +1,4 @@
 //! Why the system did not read a file, or did not write one.
-use itoa::Buffer;
 
 /// Why a file was not read, or not written.
 #[derive(Clone, Copy)]
@@ -34,45 +33,9 @@ pub enum FileReason {
     Refused,
 }
 
-/// The words of a reason, one behind the other.
-#[derive(Clone, Copy)]
-pub(crate) struct ReasonWords<'a> {
-    /// What it is, up to its numbers.
-    pub(crate) front: &'a str,
-    /// The number of a line, or nothing.
-    pub(crate) line: &'a str,
-    /// What stands between two numbers, or nothing.
-    pub(crate) between: &'a str,
-    /// The number of a column, or nothing.
-    pub(crate) column: &'a str,
-}
-
 impl FileReason {
-    /// Its words. The buffers take the digits of numbers in them.
-    pub(crate) fn words<'a>(
-        self,
-        line_room: &'a mut Buffer,
-        column_room: &'a mut Buffer,
-    ) -> ReasonWords<'a> {
-        let front = self.front();
-        match self {
-            FileReason::NotText { line, column } => ReasonWords {
-                front,
-                line: line_room.format(line),
-                between: ", column ",
-                column: column_room.format(column),
-            },
-            _ => ReasonWords {
-                front,
-                line: "",
-                between: "",
-                column: "",
-            },
-        }
-    }
-
-    // Its words, up to the numbers in it.
-    fn front(self) -> &'static str {
+    /// Its words, up to the numbers in it.
+    pub(crate) fn words(self) -> &'static str {
         match self {
             FileReason::Missing => "no such file",
             FileReason::NoFolder => "no such folder",

@@ -1,9 +1,14 @@
 //! Journals that are written piece by piece.
-ghost use Rattle.std.specs.Prelude.{◌≡◌, ◌++◌, codes, reverse as reversed, OnOk};
-ghost use Rattle.journal_text.specs.rule.Journals.{end_text, entries_text, entry_text, head_text, journal_text};
+ghost use Rattle.std.specs.Prelude.{◌≡◌, ◌++◌, codes, option_map, Some, IfErr, OnOk};
+ghost use Rattle.journal_text.specs.rule.Journals.{end_text, entries_text, head_text, journal_text};
+ghost use Rattle.replay.specs.rule.Commands.{KeepsJournal};
+ghost use Rattle.replay.specs.rule.Faults.{IsUnkept};
 ghost use Rattle.replay.specs.rule.Stores.{Adds};
 
+use crate::drafted::committed;
+use crate::fault::Fault;
 use crate::file_draft::FileDraft;
+use crate::store::Store;
 use cluster_core::journal::Journal;
 use journal_text::journal::{push_end, push_entry, push_head};
 use messages::entry::Entry;
@@ -11,13 +16,48 @@ use messages::shape::Shape;
 use messages::version::Version;
 use std::alloc::{AllocError, Global};
 
-// After each so many entries that were written, their memory is given back.
-const ENTRIES_AT_ONCE: usize = 16_384;
-
-/// Writes a journal, which goes while it is written: the memory of its entries is given back part by part.
+/// Writes the journal of a run to a file, if one is named.
 ///
 /// # Errors
-/// `AllocError` where a request for memory was refused; the journal is gone then too.
+/// `CannotWrite` where the file can't be written; `NoMemory` where a request for memory was refused.
+pub(crate) fn keep_journal<'a, S: Store>(
+    alloc: Global,
+    store: &mut S,
+    file: Option<&'a str>,
+    journal: Journal,
+) -> Result<(), Fault<'a>>
+    ensures kept { OnOk result (KeepsJournal (S.holds store.old) (option_map (λ file. file.now) file.entry) (journal_text journal.shape journal.entries) (S.holds store.new)) }
+    ensures fault { IfErr result (IsUnkept (S.holds store.old) (S.refuses store.new) (option_map (λ file. file.now) file.entry) (S.holds store.new)) }
+{
+    match file {
+        None => Ok(()),
+        Some(file) => write_journal(alloc, store, file, journal),
+    }
+}
+
+/// Writes the journal of a run to this file.
+///
+/// # Errors
+/// The same.
+pub fn write_journal<'a, S: Store>(
+    alloc: Global,
+    store: &mut S,
+    file: &'a str,
+    journal: Journal,
+) -> Result<(), Fault<'a>>
+    ensures kept { OnOk result (KeepsJournal (S.holds store.old) (Some file.now) (journal_text journal.shape journal.entries) (S.holds store.new)) }
+    ensures fault { IfErr result (IsUnkept (S.holds store.old) (S.refuses store.new) (Some file.now) (S.holds store.new)) }
+{
+    let mut draft = store.begin(file);
+    let made = add_journal(&mut draft, alloc, journal);
+    committed(store, file, draft, made)?;
+    Ok(())
+}
+
+/// Writes a journal, which then goes.
+///
+/// # Errors
+/// `AllocError` where a request for memory was refused.
 pub fn add_journal<D: FileDraft>(
     draft: &mut D,
     alloc: Global,
@@ -26,23 +66,14 @@ pub fn add_journal<D: FileDraft>(
     ensures { OnOk result (Adds (D.has draft.old) (D.has draft.new) (journal_text journal.shape journal.entries)) }
 {
     let shape = journal.shape();
-    let mut entries = journal.into_entries();
-    let count = entries.len();
-    entries.reverse();
+    let entries = journal.entries();
     add_head(draft, alloc, &shape)?;
-    add_from_last(draft, alloc, shape.version(), entries)?;
-    add_end(draft, alloc, count)
+    add_entries(draft, alloc, shape.version(), entries)?;
+    add_end(draft, alloc, entries.len())
 }
 
-/// Writes the first line of a journal.
-///
-/// # Errors
-/// `AllocError` where a request for memory was refused.
-pub(crate) fn add_head<D: FileDraft>(
-    draft: &mut D,
-    alloc: Global,
-    shape: &Shape,
-) -> Result<(), AllocError>
+// Writes the first line of a journal.
+fn add_head<D: FileDraft>(draft: &mut D, alloc: Global, shape: &Shape) -> Result<(), AllocError>
     ensures { OnOk result (Adds (D.has draft.old) (D.has draft.new) (head_text shape.now ++ codes "\n")) }
 {
     let mut line = String::new(alloc);
@@ -50,56 +81,28 @@ pub(crate) fn add_head<D: FileDraft>(
     draft.add(line.as_bytes())
 }
 
-// Writes the lines of entries as this version has them, the last of them first, at position 1. Each goes
-// once it is written.
-fn add_from_last<D: FileDraft>(
+// Writes the lines of entries as this version has them, the first at position 1. The lines of each are made in the same room.
+fn add_entries<D: FileDraft>(
     draft: &mut D,
     alloc: Global,
     version: Version,
-    mut entries: Vec<Entry>,
+    entries: &[Entry],
 ) -> Result<(), AllocError>
-    ensures { OnOk result (Adds (D.has draft.old) (D.has draft.new) (entries_text version 1 (reversed entries.items))) }
+    ensures { OnOk result (Adds (D.has draft.old) (D.has draft.new) (entries_text version 1 entries.now)) }
 {
     let mut lines = String::new(alloc);
     let mut position = 0u64;
-    while let Some(entry) = entries.pop() {
+    for entry in entries {
         position += 1;
-        add_entry(draft, &mut lines, version, position, &entry)?;
-        drop(entry);
-        if entries.len() % ENTRIES_AT_ONCE == 0 {
-            entries.shrink_to_fit();
-        }
+        lines.clear();
+        push_entry(&mut lines, version, position, entry)?;
+        draft.add(lines.as_bytes())?;
     }
     Ok(())
 }
 
-/// Writes the lines of an entry at this position, as journals of this version have them. They are made in the room of `lines`.
-///
-/// # Errors
-/// `AllocError` where a request for memory was refused.
-pub(crate) fn add_entry<D: FileDraft>(
-    draft: &mut D,
-    lines: &mut String,
-    version: Version,
-    position: u64,
-    entry: &Entry,
-) -> Result<(), AllocError>
-    ensures { OnOk result (Adds (D.has draft.old) (D.has draft.new) (entry_text version position entry.now)) }
-{
-    lines.clear();
-    push_entry(lines, version, position, entry)?;
-    draft.add(lines.as_bytes())
-}
-
-/// Writes the last line of a journal of so many entries.
-///
-/// # Errors
-/// `AllocError` where a request for memory was refused.
-pub(crate) fn add_end<D: FileDraft>(
-    draft: &mut D,
-    alloc: Global,
-    count: usize,
-) -> Result<(), AllocError>
+// Writes the last line of a journal of so many entries.
+fn add_end<D: FileDraft>(draft: &mut D, alloc: Global, count: usize) -> Result<(), AllocError>
     ensures { OnOk result (Adds (D.has draft.old) (D.has draft.new) (end_text count ++ codes "\n")) }
 {
     let mut line = String::new(alloc);

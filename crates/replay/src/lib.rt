@@ -4,7 +4,6 @@
 
 mod audit;
 mod auditor;
-mod behind;
 mod calmed;
 pub mod disk;
 pub mod disk_draft;
@@ -17,7 +16,6 @@ pub mod input;
 pub mod journal_draft;
 mod judge;
 mod listing;
-mod listing_options;
 pub mod meter;
 mod on_threads;
 pub mod output;

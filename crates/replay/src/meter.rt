@@ -4,12 +4,6 @@ use std::io::Write;
 use std::time::{Clock, Duration, Instant};
 use thread_runs::run_watcher::RunWatcher;
 
-// How many parts pass at the most between two looks at the clock.
-const MOST_BETWEEN_LOOKS: u64 = 64;
-
-// Where two looks are less apart than so many milliseconds, twice as many parts pass until the next one, else half as many.
-const MILLISECONDS_BETWEEN_LOOKS: u64 = 50;
-
 // How many seconds it takes until a line is shown, and then until the next one is.
 const SECONDS_BETWEEN_LINES: u64 = 1;
 
@@ -23,10 +17,6 @@ pub struct Meter<'a, C, W> {
     count: Option<u64>,
     done: u64,
     last: Option<Instant>,
-    looked: Option<Instant>,
-    // How many parts pass between two looks at the clock, and until the next one.
-    between: u64,
-    left: u64,
     is_shown: bool,
 }
 
@@ -40,9 +30,6 @@ impl<'a, C: Clock, W: Write> Meter<'a, C, W> {
             count: None,
             done: 0,
             last: None,
-            looked: None,
-            between: 1,
-            left: 1,
             is_shown: false,
         }
     }
@@ -55,19 +42,6 @@ impl<'a, C: Clock, W: Write> Meter<'a, C, W> {
         Instant::now(self.clock).ok()
     }
 
-    // Takes the time of a look at the clock, by which the next one comes.
-    fn pace(&mut self, now: Instant) {
-        let Some(looked) = self.looked.replace(now) else {
-            return;
-        };
-        let apart = now.saturating_duration_since(looked);
-        self.between = if apart < Duration::from_millis(MILLISECONDS_BETWEEN_LOOKS) {
-            self.between.saturating_mul(2).min(MOST_BETWEEN_LOOKS)
-        } else {
-            (self.between / 2).max(1)
-        };
-    }
-
     // Whether it is time for a line.
     fn is_due(&mut self) -> bool {
         let Some(last) = self.last else {
@@ -76,7 +50,6 @@ impl<'a, C: Clock, W: Write> Meter<'a, C, W> {
         let Some(now) = self.now() else {
             return false;
         };
-        self.pace(now);
         if now.saturating_duration_since(last) < Duration::from_secs(SECONDS_BETWEEN_LINES) {
             return false;
         }
@@ -84,13 +57,7 @@ impl<'a, C: Clock, W: Write> Meter<'a, C, W> {
         true
     }
 
-    // Shows a line where it is time. What can't be written is lost.
-    fn look(&mut self) {
-        if self.is_due() {
-            self.show();
-        }
-    }
-
+    // Writes to the terminal, where there is one. What can't be written is lost.
     fn show(&mut self) {
         let Some(terminal) = self.terminal.as_mut() else {
             return;
@@ -110,19 +77,12 @@ impl<C: Clock, W: Write> Watcher for Meter<'_, C, W> {
         self.count = count;
         self.done = 0;
         self.last = self.now();
-        self.looked = self.last;
-        (self.between, self.left) = (1, 1);
     }
 
     fn pass(&mut self) {
-        if self.terminal.is_none() {
-            return;
-        }
         self.done = self.done.saturating_add(1);
-        self.left = self.left.saturating_sub(1);
-        if self.left == 0 {
-            self.look();
-            self.left = self.between;
+        if self.is_due() {
+            self.show();
         }
     }
 

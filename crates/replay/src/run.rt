@@ -1,153 +1,117 @@
 //! Running the script of a file.
-ghost use Rattle.std.specs.Prelude.{◌≡◌, ◌≢◌, [], None, Some, string_bytes, IfErr, IfOk, OnOk};
+ghost use Rattle.std.specs.Prelude.{◌≡◌, ◌≢◌, None, Some, option_map, string_bytes, IfErr, IfOk, OnOk};
+ghost use Rattle.cluster_core.specs.rule.Parts.{world_state};
 ghost use Rattle.command_line.specs.rule.Tasks.{run};
 ghost use Rattle.journal_text.specs.rule.Journals.{journal_text};
-ghost use Rattle.journal_text.specs.rule.Readings.{WritesJournal};
-ghost use Rattle.replay.specs.declared.fault.Fault.TheVariants.{CannotWriteOutput};
-ghost use Rattle.replay.specs.rule.Commands.{Does, IsFault, IsRunText};
 ghost use Rattle.player.specs.code.Parts.{state_of};
-ghost use Rattle.replay.specs.rule.Scripts.{IsListing, IsListingBegun};
-ghost use Rattle.replay.specs.rule.Stores.{Adds};
+ghost use Rattle.player.specs.rule.Played.{EndsIn};
+ghost use Rattle.replay.specs.declared.fault.Fault.TheVariants.{CannotWriteOutput};
+ghost use Rattle.replay.specs.rule.Commands.{Does, IsFault, IsReadFrom, IsRunText, KeepsJournal};
+ghost use Rattle.replay.specs.rule.Faults.{IsUnkept};
 
-use crate::drafted::committed;
+use crate::audit::{Audited, checked_new};
 use crate::fault::Fault;
-use crate::file_draft::FileDraft;
-use crate::journal_draft::add_journal;
-use crate::listing::{listing_begun, push_history_and_journal, push_history_of};
-use crate::listing_options::ListingOptions;
-use crate::ran::{Ran, run_of, shown_beside};
+use crate::journal_draft::keep_journal;
+use crate::listing::listing_of;
+use crate::ran::{Ran, run_behind_of, run_of, shown_beside};
 use crate::shown::Shown;
 use crate::store::Store;
 use cluster_core::journal::Journal;
+use cluster_core::world::World;
 use journal_text::laws::each_journal_is_read;
-use placement::placed_run::PlacedRun;
+use lockscript::refused_line::RefusedLine;
 use player::played::Played;
 use player::watcher::Watcher;
 use std::alloc::{AllocError, Global};
 
-// What is shown of what the script of a file comes to.
-pub(crate) fn run_script<'a, S: Store, V: Watcher>(
+/// What is to be shown of a run.
+#[derive(Clone, Copy)]
+pub(crate) struct ListingOptions {
+    /// Whether replies are compared with what the script expects, and each other one is told.
+    pub(crate) expect: bool,
+    /// Whether the listing is left away.
+    pub(crate) quiet: bool,
+    /// Whether the run goes on behind the script until it is calm.
+    pub(crate) calm: bool,
+}
+
+/// What is shown of what the script of a file comes to. The journal of the run is written to a file, if one is named. It
+/// takes its place once all else that needs memory is done.
+pub(crate) fn run_alone<'a, S: Store, V: Watcher>(
     alloc: Global,
     store: &mut S,
     path: &'a str,
+    journal: Option<&'a str>,
     wanted: ListingOptions,
     watcher: &mut V,
 ) -> Result<Shown, Fault<'a>>
-    ensures done { IfOk result (Does (S.holds store.old) (run path.now None None wanted.expect wanted.quiet wanted.calm) (S.holds store.new)) }
+    ensures done { IfOk result (Does (S.holds store.old) (run path.now None (option_map (λ file. file.now) journal.entry) wanted.expect wanted.quiet wanted.calm) (S.holds store.new)) }
     ensures fault { IfErr result (λ fault. (fault ≢ CannotWriteOutput)
-        × IsFault (S.holds store.old) (S.ran_short store.new) (S.refuses store.new) (run path.now None None wanted.expect wanted.quiet wanted.calm) (S.holds store.new) fault) }
+        × IsFault (S.holds store.old) (S.ran_short store.new) (S.refuses store.new) (run path.now None (option_map (λ file. file.now) journal.entry) wanted.expect wanted.quiet wanted.calm) (S.holds store.new) fault) }
 {
     let Ran { played, told } = run_of(alloc, store, path, wanted.expect, wanted.calm, watcher)?;
-    Ok(shown_beside(run_text(alloc, played, wanted)?, told))
+    let text = text_kept(alloc, store, journal, played, wanted.quiet)?;
+    Ok(shown_beside(text, told))
 }
 
-// The same, with the journal of the run written to a file. It is made beside the listing, and takes its place once all
-// that needs memory is done.
-pub(crate) fn run_with_journal<'a, S: Store, V: Watcher>(
+/// The same of a script that goes on behind the journal of another file, which is audited first.
+pub(crate) fn run_behind<'a, S: Store, V: Watcher>(
     alloc: Global,
     store: &mut S,
     path: &'a str,
-    file: &'a str,
+    after: &'a str,
+    journal: Option<&'a str>,
     wanted: ListingOptions,
     watcher: &mut V,
 ) -> Result<Shown, Fault<'a>>
-    ensures done { IfOk result (Does (S.holds store.old) (run path.now None (Some file.now) wanted.expect wanted.quiet wanted.calm) (S.holds store.new)) }
+    ensures done { IfOk result (Does (S.holds store.old) (run path.now (Some after.now) (option_map (λ file. file.now) journal.entry) wanted.expect wanted.quiet wanted.calm) (S.holds store.new)) }
     ensures fault { IfErr result (λ fault. (fault ≢ CannotWriteOutput)
-        × IsFault (S.holds store.old) (S.ran_short store.new) (S.refuses store.new) (run path.now None (Some file.now) wanted.expect wanted.quiet wanted.calm) (S.holds store.new) fault) }
+        × IsFault (S.holds store.old) (S.ran_short store.new) (S.refuses store.new) (run path.now (Some after.now) (option_map (λ file. file.now) journal.entry) wanted.expect wanted.quiet wanted.calm) (S.holds store.new) fault) }
 {
-    let Ran { played, told } = run_of(alloc, store, path, wanted.expect, wanted.calm, watcher)?;
-    let mut draft = store.begin(file);
-    let made = text_and_journal(&mut draft, alloc, played, wanted);
-    Ok(shown_beside(committed(store, file, draft, made)?, told))
+    let before = match checked_new(alloc, store, after)? {
+        Audited::Run(before) => before,
+        Audited::Wrong(position) => return Ok(Shown::No(position)),
+    };
+    let (expect, calm) = (wanted.expect, wanted.calm);
+    let Ran { played, told } = run_behind_of(alloc, store, path, before, expect, calm, watcher)?;
+    let text = text_kept(alloc, store, journal, played, wanted.quiet)?;
+    Ok(shown_beside(text, told))
 }
 
-// What is shown of a run.
-pub(crate) fn run_text(
+// What is shown of a run, whose journal is written to a file, if one is named.
+fn text_kept<'a, S: Store>(
     alloc: Global,
+    store: &mut S,
+    file: Option<&'a str>,
     played: Played,
-    wanted: ListingOptions,
-) -> Result<String, AllocError>
-    ensures { IfOk result (λ text. IsRunText (state_of played) wanted.quiet (string_bytes text)) }
-{
-    if wanted.quiet {
-        Ok(String::new(alloc))
-    } else {
-        listing_of(alloc, played)
-    }
-}
-
-// What is shown of a run, whose journal is written to a draft.
-pub(crate) fn text_and_journal<D: FileDraft>(
-    draft: &mut D,
-    alloc: Global,
-    played: Played,
-    wanted: ListingOptions,
-) -> Result<String, AllocError>
-    ensures shown { IfOk result (λ text. IsRunText (state_of played) wanted.quiet (string_bytes text)) }
-    ensures journal { OnOk result (Adds (D.has draft.old) (D.has draft.new) (journal_text played.journal.shape played.journal.entries)) }
-    ensures read { OnOk result (WritesJournal (journal_text played.journal.shape played.journal.entries) played.journal.shape played.journal.entries) }
-{
-    if wanted.quiet {
-        journal_alone(draft, alloc, played)
-    } else {
-        listing_and_journal(draft, alloc, played)
-    }
-}
-
-// The listing of a run. What is no longer needed goes as soon as it can: each entry once what stands there is written.
-fn listing_of(alloc: Global, played: Played) -> Result<String, AllocError>
-    ensures { IfOk result (λ text. IsListing (state_of played) (string_bytes text)) }
-{
-    let (mut text, run) = listing_of_played(alloc, played)?;
-    push_history_of(&mut text, alloc, run)?;
-    Ok(text)
-}
-
-// The same, with the journal of the run written to a draft.
-fn listing_and_journal<D: FileDraft>(
-    draft: &mut D,
-    alloc: Global,
-    played: Played,
-) -> Result<String, AllocError>
-    ensures listing { IfOk result (λ text. IsListing (state_of played) (string_bytes text)) }
-    ensures journal { OnOk result (Adds (D.has draft.old) (D.has draft.new) (journal_text played.journal.shape played.journal.entries)) }
-    ensures read { OnOk result (WritesJournal (journal_text played.journal.shape played.journal.entries) played.journal.shape played.journal.entries) }
-{
-    let (mut text, run) = listing_of_played(alloc, played)?;
-    each_journal_is_read(run.journal());
-    push_history_and_journal(&mut text, draft, alloc, run)?;
-    Ok(text)
-}
-
-// Nothing, with the journal of the run written to a draft.
-fn journal_alone<D: FileDraft>(
-    draft: &mut D,
-    alloc: Global,
-    played: Played,
-) -> Result<String, AllocError>
-    ensures nothing { IfOk result (λ text. string_bytes text ≡ []) }
-    ensures journal { OnOk result (Adds (D.has draft.old) (D.has draft.new) (journal_text played.journal.shape played.journal.entries)) }
-    ensures read { OnOk result (WritesJournal (journal_text played.journal.shape played.journal.entries) played.journal.shape played.journal.entries) }
-{
-    let journal = journal_of(played);
-    each_journal_is_read(&journal);
-    add_journal(draft, alloc, journal)?;
-    Ok(String::new(alloc))
-}
-
-// The journal of a run. The world goes.
-fn journal_of(played: Played) -> Journal
-    ensures { result ≡ played.journal }
-{
-    let (journal, _world, _refused) = played.into_parts();
-    journal
-}
-
-// The listing of a run up to its history, and the run, whose calls have their places.
-fn listing_of_played(alloc: Global, played: Played) -> Result<(String, PlacedRun), AllocError>
-    ensures run { IfOk result (λ begun. begun.1 ≡ played.journal) }
-    ensures text { IfOk result (λ begun. IsListingBegun (state_of played) (string_bytes begun.0)) }
+    quiet: bool,
+) -> Result<String, Fault<'a>>
+    ensures text { IfOk result (λ text. IsRunText (state_of played) quiet (string_bytes text)) }
+    ensures kept { OnOk result (KeepsJournal (S.holds store.old) (option_map (λ file. file.now) file.entry) (journal_text played.journal.shape played.journal.entries) (S.holds store.new)) }
+    ensures read { OnOk result (IsReadFrom (option_map (λ file. file.now) file.entry) played.journal) }
+    ensures fault { IfErr result (IsUnkept (S.holds store.old) (S.refuses store.new) (option_map (λ file. file.now) file.entry) (S.holds store.new)) }
 {
     let (journal, world, refused) = played.into_parts();
-    listing_begun(alloc, journal, world, refused.as_slice())
+    each_journal_is_read(&journal);
+    let text = listing_unless(alloc, &journal, world, refused.as_slice(), quiet)?;
+    keep_journal(alloc, store, file, journal)?;
+    Ok(text)
+}
+
+// What is shown of the run of a journal that ends in this world, in which these lines were refused.
+fn listing_unless(
+    alloc: Global,
+    journal: &Journal,
+    world: World,
+    refused: &[RefusedLine],
+    quiet: bool,
+) -> Result<String, AllocError>
+    requires { EndsIn journal.now (world_state world) }
+    ensures { IfOk result (λ text. IsRunText (state_of (record { journal = journal.now; world = world; refused = refused.now })) quiet (string_bytes text)) }
+{
+    if quiet {
+        Ok(String::new(alloc))
+    } else {
+        listing_of(alloc, journal, world, refused)
+    }
 }

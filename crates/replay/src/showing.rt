@@ -1,16 +1,13 @@
 //! What is shown of each command.
-ghost use Rattle.std.specs.Prelude.{◌≢◌, None, Some, IfErr, IfOk};
-ghost use Rattle.std.specs.Option.{option_map};
-ghost use Rattle.command_line.specs.rule.Tasks.{run, run_task_of, task_of, threads_task_of};
+ghost use Rattle.std.specs.Prelude.{◌≢◌, IfErr, IfOk};
+ghost use Rattle.command_line.specs.rule.Tasks.{run_task_of, task_of, threads_task_of};
 ghost use Rattle.replay.specs.declared.fault.Fault.TheVariants.{CannotWriteOutput};
 ghost use Rattle.replay.specs.rule.Commands.{Does, IsFault};
 
 use crate::audit::{audit, history};
-use crate::behind::{run_behind, run_behind_with_journal};
 use crate::fault::Fault;
 use crate::judge::judge;
-use crate::listing_options::ListingOptions;
-use crate::run::{run_script, run_with_journal};
+use crate::run::{ListingOptions, run_alone, run_behind};
 use crate::shown::Shown;
 use crate::state::state;
 use crate::store::Store;
@@ -72,47 +69,8 @@ fn run_shown<'a, S: Store, V: Watcher>(
     };
     let (script, journal) = (asked.script, asked.journal);
     match asked.after {
-        None => run_alone_shown(alloc, store, script, journal, wanted, watcher),
-        Some(after) => run_behind_shown(alloc, store, script, after, journal, wanted, watcher),
-    }
-}
-
-// The same of a script that goes on behind no journal.
-fn run_alone_shown<'a, S: Store, V: Watcher>(
-    alloc: Global,
-    store: &mut S,
-    script: &'a str,
-    journal: Option<&'a str>,
-    wanted: ListingOptions,
-    watcher: &mut V,
-) -> Result<Shown, Fault<'a>>
-    ensures done { IfOk result (Does (S.holds store.old) (run script.now None (option_map (λ file. file.now) journal.entry) wanted.expect wanted.quiet wanted.calm) (S.holds store.new)) }
-    ensures fault { IfErr result (λ fault. (fault ≢ CannotWriteOutput)
-        × IsFault (S.holds store.old) (S.ran_short store.new) (S.refuses store.new) (run script.now None (option_map (λ file. file.now) journal.entry) wanted.expect wanted.quiet wanted.calm) (S.holds store.new) fault) }
-{
-    match journal {
-        None => run_script(alloc, store, script, wanted, watcher),
-        Some(file) => run_with_journal(alloc, store, script, file, wanted, watcher),
-    }
-}
-
-// The same of a script that goes on behind the journal of another file.
-fn run_behind_shown<'a, S: Store, V: Watcher>(
-    alloc: Global,
-    store: &mut S,
-    script: &'a str,
-    after: &'a str,
-    journal: Option<&'a str>,
-    wanted: ListingOptions,
-    watcher: &mut V,
-) -> Result<Shown, Fault<'a>>
-    ensures done { IfOk result (Does (S.holds store.old) (run script.now (Some after.now) (option_map (λ file. file.now) journal.entry) wanted.expect wanted.quiet wanted.calm) (S.holds store.new)) }
-    ensures fault { IfErr result (λ fault. (fault ≢ CannotWriteOutput)
-        × IsFault (S.holds store.old) (S.ran_short store.new) (S.refuses store.new) (run script.now (Some after.now) (option_map (λ file. file.now) journal.entry) wanted.expect wanted.quiet wanted.calm) (S.holds store.new) fault) }
-{
-    match journal {
-        None => run_behind(alloc, store, script, after, wanted, watcher),
-        Some(file) => run_behind_with_journal(alloc, store, script, after, file, wanted, watcher),
+        None => run_alone(alloc, store, script, journal, wanted, watcher),
+        Some(after) => run_behind(alloc, store, script, after, journal, wanted, watcher),
     }
 }
 

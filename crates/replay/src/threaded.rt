@@ -9,7 +9,7 @@ ghost use Rattle.player.specs.rule.Rounds.{NoneStuck};
 ghost use Rattle.replay.specs.rule.Threads.{ShowsThreads, Tells, ThreadedFields, open_line};
 
 use crate::held_receipts::held_in;
-use crate::listing::listing_of_journal;
+use crate::listing::listing_of;
 use crate::shown::Shown;
 use crate::unstuck::is_none_stuck;
 use cluster_core::journal::Journal;
@@ -60,7 +60,7 @@ impl Threaded {
         let journal = run.journal();
         each_journal_is_read(journal);
         let may_go_on = may_answer(alloc, run.open_calls(), journal, &world)?;
-        let listing = listing_of_journal(alloc, journal, world, run.refused())?;
+        let listing = listing_of(alloc, journal, world, run.refused())?;
         let receipts = run.receipts();
         let held = held_in(journal, receipts);
         let answered = receipts.len() as u64;

@@ -1,5 +1,5 @@
 //! Running the script of a file on threads.
-ghost use Rattle.std.specs.Prelude.{◌≡◌, ◌≢◌, None, Some, option_map, string_bytes, IfErr, IfOk};
+ghost use Rattle.std.specs.Prelude.{◌≡◌, ◌≢◌, None, option_map, IfErr, IfOk};
 ghost use Rattle.command_line.specs.rule.Tasks.{threads};
 ghost use Rattle.replay.specs.declared.fault.Fault.TheVariants.{CannotWriteOutput};
 ghost use Rattle.replay.specs.rule.Commands.{Does, IsFault};
@@ -8,10 +8,9 @@ ghost use Rattle.replay.specs.rule.Stores.{SameFiles};
 ghost use Rattle.replay.specs.rule.Threads.{HasThreadScript, IsTaken, IsTold};
 ghost use Rattle.lockscript.specs.rule.ThreadLines.{bad_line};
 
-use crate::drafted::committed;
 use crate::fault::Fault;
 use crate::input::text_of;
-use crate::journal_draft::add_journal;
+use crate::journal_draft::keep_journal;
 use crate::on_threads::run_on_threads;
 use crate::shown::Shown;
 use crate::store::Store;
@@ -39,51 +38,9 @@ pub(crate) fn play_on_threads<'a, R: Threads + Wait + Clock + Sync, S: Store, V:
     ensures fault { IfErr result (λ fault. (fault ≢ CannotWriteOutput)
         × IsFault (S.holds store.old) (S.ran_short store.new) (S.refuses store.new) (threads path.now seed manner.may_stop manner.no_join (option_map (λ file. file.now) journal.entry)) (S.holds store.new) fault) }
 {
-    match journal {
-        None => run_threads(rt, alloc, store, path, seed, manner, watcher),
-        Some(file) => run_threads_with_journal(rt, alloc, store, path, seed, manner, file, watcher),
-    }
-}
-
-// What is shown of a run of the script of a file.
-fn run_threads<'a, R: Threads + Wait + Clock + Sync, S: Store, V: RunWatcher>(
-    rt: &R,
-    alloc: Global,
-    store: &mut S,
-    path: &'a str,
-    seed: u32,
-    manner: Manner,
-    watcher: &mut V,
-) -> Result<Shown, Fault<'a>>
-    ensures done { IfOk result (Does (S.holds store.old) (threads path.now seed manner.may_stop manner.no_join None) (S.holds store.new)) }
-    ensures fault { IfErr result (λ fault. (fault ≢ CannotWriteOutput)
-        × IsFault (S.holds store.old) (S.ran_short store.new) (S.refuses store.new) (threads path.now seed manner.may_stop manner.no_join None) (S.holds store.new) fault) }
-{
     let threaded = threaded_of(rt, alloc, store, path, seed, manner, watcher)?;
-    let (shown, _) = threaded.into_shown()?;
-    Ok(shown)
-}
-
-// The same, with the journal of the run written to a file.
-fn run_threads_with_journal<'a, R: Threads + Wait + Clock + Sync, S: Store, V: RunWatcher>(
-    rt: &R,
-    alloc: Global,
-    store: &mut S,
-    path: &'a str,
-    seed: u32,
-    manner: Manner,
-    file: &'a str,
-    watcher: &mut V,
-) -> Result<Shown, Fault<'a>>
-    ensures done { IfOk result (Does (S.holds store.old) (threads path.now seed manner.may_stop manner.no_join (Some file.now)) (S.holds store.new)) }
-    ensures fault { IfErr result (λ fault. (fault ≢ CannotWriteOutput)
-        × IsFault (S.holds store.old) (S.ran_short store.new) (S.refuses store.new) (threads path.now seed manner.may_stop manner.no_join (Some file.now)) (S.holds store.new) fault) }
-{
-    let threaded = threaded_of(rt, alloc, store, path, seed, manner, watcher)?;
-    let (shown, journal) = threaded.into_shown()?;
-    let mut draft = store.begin(file);
-    let made = add_journal(&mut draft, alloc, journal);
-    committed(store, file, draft, made)?;
+    let (shown, made) = threaded.into_shown()?;
+    keep_journal(alloc, store, journal, made)?;
     Ok(shown)
 }
 

@@ -1,5 +1,5 @@
 -- The items that slots stand for, with entries named by their indexes.
-use Rattle.std.specs.Prelude.{ℕ, List, map, slice_get, Option, Some, None}
+use Rattle.std.specs.Prelude.{ℕ, ◌+◌, List, [], ◌∷◌, slice_get, Option, Some, None}
 use Rattle.model.specs.declared.call.CallId.{CallId}
 use Rattle.model.specs.declared.op.Op.{Op}
 use Rattle.model.specs.declared.reply.Reply.{Reply}
@@ -29,11 +29,13 @@ abbrev pub answered_by : ℕ → Option (ℕ × Op) → Option Entry → Option 
 answered_by at made None = None
 answered_by at made (Some e) = answered_so at made e.reply
 
--- the item in a slot, if one stands there
-abbrev pub stands : List Entry → Slot → Option Item
-stands all Empty = None
-stands all (Declared at entry) = declared_by at (slice_get all entry)
-stands all (Answered at call reply) = answered_by at (made_by (slice_get all call)) (slice_get all reply)
+-- the item that stands at the entry with index k, which has this slot, if one does
+abbrev pub stands : List Entry → ℕ → Slot → Option Item
+stands all k Empty = None
+stands all k Declared = declared_by (k + 1) (slice_get all k)
+stands all k (Answered call reply) = answered_by (k + 1) (made_by (slice_get all call)) (slice_get all reply)
 
-abbrev pub standing : List Entry → List Slot → List (Option Item)
-standing all slots = map (stands all) slots
+-- the items at the entries from the one with index k on, which have these slots
+abbrev pub standing : List Entry → ℕ → List Slot → List (Option Item)
+standing all k [] = []
+standing all k (s ∷ ss) = stands all k s ∷ standing all (k + 1) ss

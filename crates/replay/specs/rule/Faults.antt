@@ -1,5 +1,5 @@
 -- What a fault of a part is to the command, what it says of a file, and the line that tells of it.
-use Rattle.std.specs.Prelude.{◌≡◌, ℕ, ◌<◌, ◌⊎◌, List, ◌++◌, codes, decimal, length, string_bytes, Option}
+use Rattle.std.specs.Prelude.{◌≡◌, ℕ, ◌<◌, ◌⊎◌, List, ◌++◌, codes, decimal, length, string_bytes, Option, Some, None}
 use Rattle.cluster_core.specs.rule.Journals.{JournalFields}
 use Rattle.cluster_core.specs.rule.World.{journal_limit}
 use Rattle.journal_text.specs.rule.Readings as readings
@@ -44,6 +44,11 @@ abbrev pub IsUnwritten : Files → (List ℕ → Type 0) → List ℕ → Files 
 IsUnwritten old Refuses path new (CannotWrite named reason) = (named.now ≡ path) × Refuses path × SameOthers old new path
 IsUnwritten old Refuses path new NoMemory = SameFiles old new
 IsUnwritten old Refuses path new fault = ⊥
+
+-- why a journal is not in the file of this path, if there is one, beside what is shown; with no path memory alone can be short
+abbrev pub IsUnkept : Files → (List ℕ → Type 0) → Option (List ℕ) → Files → Fault → Type 0
+IsUnkept old Refuses None new fault = (fault ≡ NoMemory) × SameFiles old new
+IsUnkept old Refuses (Some path) new fault = IsUnwritten old Refuses path new fault
 
 -- why the script of the file is not run to its end: a bad line, a full journal, or short memory for the run of a script
 abbrev pub ScriptFault : (Option (List ℕ) → Type 0) → Fault → Type 0

@@ -1,8 +1,7 @@
 use Rattle.std.proofs.Common.{◌≡◌, take}
-use Rattle.std.specs.List.{filter_map}
-use Rattle.placement.specs.code.KeptSlots.{slots_in}
-use Rattle.placement.specs.code.Standing.{stands}
+use Rattle.cluster_core.specs.code.Placement.{items_in}
+use Rattle.placement.specs.code.Standing.{standing}
 use Rattle.placement.proofs.placed.items_in.Given as goal
 
 abbrev pub invariant-loop-index : goal.invariant-loop-index
-invariant-loop-index l = l.items.items ≡ filter_map (stands l.entries) (slots_in 0 (take l.index l.slots))
+invariant-loop-index l = l.items.items ≡ items_in (standing l.entries 0 (take l.index l.slots))

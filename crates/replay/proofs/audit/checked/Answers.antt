@@ -1,21 +1,23 @@
-use Rattle.std.proofs.Common.{◌≡◌, inr, subst, sym}
+use Rattle.std.proofs.Common.{string_bytes}
 use Rattle.std.proofs.lemmas.Result.{IfErr-weaker, IfOk-weaker}
+use Rattle.std.proofs.lemmas.Str.{IsUtf8-string_bytes}
 use Rattle.cluster_core.specs.rule.Journals.{JournalFields}
-use Rattle.replay.specs.declared.fault.Fault.TheVariants.{NoMemory}
-use Rattle.replay.specs.rule.Audits.{HasJournal, IsAudited}
-use Rattle.replay.specs.rule.Faults.{IsJournalFault}
+use Rattle.replay.specs.rule.Audits.{HasJournal, IsAudited, WritesFew}
+use Rattle.replay.specs.rule.Faults.{IsJournalFault, IsTextFault}
+use Rattle.replay.proofs.Journals.{has-journal, text-fault}
 use Rattle.replay.proofs.audit.checked.Goals as goal
 
 pub returns-clause-audited : goal.returns-clause-audited
 returns-clause-audited g c =
     let Holds = g.S.Store.holds c.args.store.now c.args.path.now in
-    let j : JournalFields = record { shape = c.in_ok-shape.shape; entries = c.in_ok-shape.entries.items } in
-    IfOk-weaker c.audit_of.result (IsAudited j) (λ audited. (k : JournalFields) × HasJournal Holds k × IsAudited k audited) (λ audited is. (j, c.in_ok-shape.ensures.entries, is)) c.audit_of.ensures.audited
+    let text = string_bytes c.in_ok-text.text in
+    IfOk-weaker c.audited.result (λ audited. (j : JournalFields) × WritesFew text j × IsAudited j audited) (λ audited. (j : JournalFields) × HasJournal Holds j × IsAudited j audited)
+    (λ audited is. (is.0, has-journal Holds text is.0 c.in_ok-text.ensures.text (IsUtf8-string_bytes c.in_ok-text.text) is.1, is.2)) c.audited.ensures.audited
 
 pub returns-clause-fault : goal.returns-clause-fault
 returns-clause-fault g c =
     let Holds = g.S.Store.holds c.args.store.now c.args.path.now in
-    let RanShort = g.S.Store.ran_short c.entries_of.new.store in
-    let j : JournalFields = record { shape = c.in_ok-shape.shape; entries = c.in_ok-shape.entries.items } in
-    let Is = IsJournalFault Holds RanShort c.args.path.now in
-    IfErr-weaker c.audit_of.result (λ fault. fault ≡ NoMemory) Is (λ fault is. subst Is (sym is) (inr (j, c.in_ok-shape.ensures.entries))) c.audit_of.ensures.fault
+    let RanShort = g.S.Store.ran_short c.text_of.new.store in
+    let text = string_bytes c.in_ok-text.text in
+    IfErr-weaker c.audited.result (IsTextFault text) (IsJournalFault Holds RanShort c.args.path.now)
+    (λ fault is. text-fault Holds RanShort c.args.path.now text fault c.in_ok-text.ensures.text (IsUtf8-string_bytes c.in_ok-text.text) is) c.audited.ensures.fault

@@ -1,9 +1,10 @@
-use Rattle.std.proofs.Common.{ap, option_copied}
-use Rattle.placement.proofs.Rests.{taken}
-use Rattle.replay.proofs.Sections.{item_told}
+use Rattle.std.proofs.Common.{◌++◌, append-nil, sym, string_bytes}
+use Rattle.replay.proofs.Sections.{item_told, items_told}
 use Rattle.replay.proofs.listing.push_items.Goals as goal
 
-pub loop-out-preserved : goal.loop-out-preserved
-loop-out-preserved c =
-    let first = taken c.loop-out.entries c.drop_first.new.self (option_copied c.first.result) _ c.item.result c.first.ensures (ap option_copied c.in-Some.is) c.item.ensures c.in_ok-drop_first.ensures.goes in
-    item_told _ _ _ _ _ c.item.result c.loop-out.invariant first.1 c.in_ok-push_standing.ensures
+pub loop-index-preserved : goal.loop-index-preserved
+loop-index-preserved c =
+    item_told c.args.entries.now c.args.slots.now c.loop-index.index _ (string_bytes c.args.out.now) _ _ _ c.loop-index-test.true c.item.ensures c.loop-index.invariant c.in_ok-push_standing.ensures
+
+pub returns : goal.returns
+returns c = items_told c.args.entries.now c.args.slots.now c.loop-index.index (string_bytes c.args.out.now) _ c.loop-index-test.false c.loop-index.invariant

@@ -1,0 +1,19 @@
+use Rattle.std.proofs.Common.{[]}
+use Rattle.std.proofs.lemmas.Result.{IfOk-at_ok, err_from_is_err_and}
+use Rattle.replay.proofs.Drafts.{unwritten-after}
+use Rattle.replay.proofs.Stores.{others-after}
+use Rattle.replay.proofs.journal_draft.write_journal.Goals as goal
+
+pub returns-clause-kept : goal.returns-clause-kept
+returns-clause-kept g c =
+    let holds = g.S.Store.holds in
+    let path = c.args.file.now in
+    let drafted = IfOk-at_ok _ c.in_ok-committed.ensures.made c.add_journal-made.ensures in
+    let written = c.in_ok-committed.ensures.written _ (drafted path [] c.begin-draft.ensures.empty) in
+    (written, others-after (holds c.args.store.now) (holds c.begin-draft.new.self) (holds c.committed.new.store) path c.begin-draft.ensures.files c.committed.ensures.others)
+
+pub returns-in_err-committed-clause-fault : goal.returns-in_err-committed-clause-fault
+returns-in_err-committed-clause-fault g c =
+    let p = err_from_is_err_and c.from_residual-in_err-committed.result c.from_residual-in_err-committed.ensures.1 in
+    let holds = g.S.Store.holds in
+    rw (p.1, p.2) (unwritten-after (holds c.args.store.now) (holds c.begin-draft.new.self) (holds c.committed.new.store) _ c.args.file.now _ c.begin-draft.ensures.files c.in_err-committed.ensures.fault)

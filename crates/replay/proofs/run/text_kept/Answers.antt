@@ -1,0 +1,16 @@
+use Rattle.std.proofs.Common.{option_map, subst}
+use Rattle.std.proofs.lemmas.Result.{err_from_is_err_and}
+use Rattle.cluster_core.specs.rule.Journals.{JournalFields}
+use Rattle.replay.specs.rule.Commands.{IsReadFrom}
+use Rattle.replay.proofs.Drafts.{read-from, unkept-short}
+use Rattle.replay.proofs.run.text_kept.Goals as goal
+
+pub returns-clause-read : goal.returns-clause-read
+returns-clause-read g c =
+    let to = option_map (λ file. file.now) c.args.file.entry in
+    subst (IsReadFrom to) c.into_parts-journal.ensures.journal (read-from to _ c.each_journal_is_read.ensures)
+
+pub returns-in_err-text-clause-fault : goal.returns-in_err-text-clause-fault
+returns-in_err-text-clause-fault g c =
+    let p = err_from_is_err_and c.from_residual-in_err-text.result c.from_residual-in_err-text.ensures.1 in
+    rw (p.1, p.2) (unkept-short (g.S.Store.holds c.args.store.now) _ (option_map (λ file. file.now) c.args.file.entry))
