@@ -1,23 +1,36 @@
 //! What the lines of a script come to in a run of it.
-ghost use Rattle.std.specs.Prelude.{◌≡◌, ◌++◌, [], ℕ, false, if◌then◌else◌, IfOk, List, OnOk};
-ghost use Rattle.std.specs.Option.{option_map_or};
+ghost use Rattle.std.specs.Prelude.{◌≡◌, ◌++◌, ◌∷◌, [], ℕ, if◌then◌else◌, string_bytes, IfOk, List, OnOk};
 ghost use Rattle.lockscript.specs.declared.refused_line.RefusedLine.{RefusedLine};
-ghost use Rattle.lockscript.specs.rule.Scripts.{LineFields};
-ghost use Rattle.expectations.specs.rule.Answers.{answers_behind, is_taken};
+ghost use Rattle.expectations.specs.rule.Answers.{answer_text, answers_behind, is_taken};
 ghost use Rattle.expectations.specs.code.ByProcess.{list_in};
-ghost use Rattle.expectations.specs.code.Indexes.{answer_by, answer_tried, next_try, KnowsTries};
-ghost use Rattle.expectations.specs.rule.Calls.{op_of};
+ghost use Rattle.expectations.specs.code.Indexes.{answer_by, KnowsRefusals};
 
-use crate::by_process::{count, value_at};
+use crate::by_process::{ByProcess, add, count};
 use crate::call_replies::CallReplies;
-use crate::calls::{Calls, note_call};
-use crate::line_answer::LineAnswer;
-use crate::tries::{Tries, line_tries};
 use lockscript::refused_line::RefusedLine;
+use lockscript::replies::push_reply;
 use lockscript::script_line::{ScriptCommand, ScriptLine};
 use messages::entry::Entry;
+use model::reply::Reply;
 use std::alloc::{AllocError, Global};
 use std::collections::HashMap;
+use std::fmt::Write;
+
+/// What a line of a script comes to in a run of it.
+#[derive(Clone, Copy)]
+pub(crate) enum LineAnswer {
+    /// It is no call.
+    NotMade,
+    /// It was refused, with the number of the refusal.
+    Refused(u16),
+    /// The call was made, and no entry replies to it.
+    Open,
+    /// The reply to the call.
+    Replied(Reply),
+}
+
+// By the number of a line: the number of its refusal.
+type Refusals = HashMap<u64, u16>;
 
 /// What each line of the script comes to in a run of it in which these lines were refused and which has these entries.
 ///
@@ -29,108 +42,70 @@ pub(crate) fn run_answers(
     refused: &[RefusedLine],
     entries: &[Entry],
 ) -> Result<Vec<LineAnswer>, AllocError>
-    ensures { IfOk result (λ answers. answers.items ≡ answers_behind [] lines.now lines.now refused.now entries.now) }
+    ensures { IfOk result (λ answers. answers.items ≡ answers_behind [] lines.now refused.now entries.now) }
 {
-    let tries = line_tries(alloc, refused, lines)?;
-    let answers = answers_by(alloc, lines, &tries, entries)?;
-    Ok(answers)
-}
-
-// What each line of the script comes to by the entries, where this became of the calls of each process. Of each process the
-// calls of the lines so far are known, and which of them were taken.
-fn answers_by(
-    alloc: Global,
-    lines: &[ScriptLine],
-    tries: &Tries,
-    entries: &[Entry],
-) -> Result<Vec<LineAnswer>, AllocError>
-    ensures { IfOk result (λ answers. (made : List LineFields) (refused : List RefusedLine) → KnowsTries tries.now refused made → answers.items ≡ answers_behind [] lines.now made refused entries.now) }
-{
+    let refusals = refusals(alloc, refused)?;
     let told = CallReplies::of(alloc, entries)?;
-    let mut earlier = HashMap::new(alloc);
     let mut taken = HashMap::new(alloc);
     let mut answers = Vec::new(alloc);
     for line in lines {
-        let command = line.command();
-        let answer = note_line(&mut earlier, &mut taken, alloc, tries, &told, &command)?;
+        let refusal = refusals.get(&u64::from(line.number())).copied();
+        let answer = note_line(&mut taken, alloc, &told, refusal, line)?;
         answers.push(answer)?;
     }
     Ok(answers)
 }
 
-// What the command of the next line comes to, which is noted among the calls so far, and among those that were
-// taken, if it was.
+// What the next line comes to, which was refused so, or was not. `taken` has for each process its lines that were taken, by
+// their numbers.
 fn note_line(
-    earlier: &mut Calls,
-    taken: &mut Calls,
+    taken: &mut ByProcess<u32>,
     alloc: Global,
-    tries: &Tries,
     told: &CallReplies<'_>,
-    command: &ScriptCommand,
+    refusal: Option<u16>,
+    line: &ScriptLine,
 ) -> Result<LineAnswer, AllocError>
-    ensures answer { IfOk result (λ answer. answer ≡ answer_by told.now taken.old (next_try tries.now earlier.old command.now) command.now) }
-    ensures earlier { OnOk result ((node pid : ℕ) → list_in earlier.new node pid ≡ list_in earlier.old node pid ++ op_of node pid command.now) }
-    ensures taken { OnOk result ((node pid : ℕ) → list_in taken.new node pid ≡ list_in taken.old node pid ++ (if option_map_or is_taken (next_try tries.now earlier.old command.now) false then op_of node pid command.now else [])) }
+    ensures answer { IfOk result (λ answer. answer ≡ answer_by refusal taken.old told.now line.now.command) }
+    ensures taken { OnOk result ((node pid : ℕ) → list_in taken.new node pid ≡ list_in taken.old node pid ++ (if is_taken refusal node pid line.now.command then line.now.number ∷ [] else [])) }
 {
-    let tried = next_try(tries, earlier, command);
-    let answer = answer_by(told, taken, tried, command);
-    note_call(earlier, alloc, command)?;
-    note_taken(taken, alloc, tried, command)?;
+    let ScriptCommand::Call { node, pid, .. } = line.command() else {
+        return Ok(LineAnswer::NotMade);
+    };
+    if let Some(code) = refusal {
+        return Ok(LineAnswer::Refused(code));
+    }
+    let answer = told.answer(node, pid, count(taken, node, pid));
+    add(taken, alloc, node, pid, line.number())?;
     Ok(answer)
 }
 
-// What became of the next call of the command's process behind those, if it is a call and was made.
-fn next_try(tries: &Tries, earlier: &Calls, command: &ScriptCommand) -> Option<Option<u16>>
-    ensures { result ≡ next_try tries.now earlier.now command.now }
+// The number of the refusal of each line, of equal lines the first.
+fn refusals(alloc: Global, refused: &[RefusedLine]) -> Result<Refusals, AllocError>
+    ensures { IfOk result (λ refusals. KnowsRefusals refusals refused.now) }
 {
-    match command {
-        ScriptCommand::Call { node, pid, .. } => {
-            value_at(tries, *node, *pid, count(earlier, *node, *pid))
-        }
-        _ => None,
+    let mut refusals = HashMap::new(alloc);
+    for index in (0..refused.len()).rev() {
+        note_refusal(&mut refusals, &refused[index])?;
     }
+    Ok(refusals)
 }
 
-// What the command of a line comes to where that became of it, behind those that were taken.
-fn answer_by(
-    told: &CallReplies<'_>,
-    taken: &Calls,
-    tried: Option<Option<u16>>,
-    command: &ScriptCommand,
-) -> LineAnswer
-    ensures { result ≡ answer_by told.now taken.now tried command.now }
+// The refusal of a line that stands before those of which the index knows.
+fn note_refusal(refusals: &mut Refusals, line: &RefusedLine) -> Result<(), AllocError>
+    ensures { OnOk result ((behind : List RefusedLine) → KnowsRefusals refusals.old behind → KnowsRefusals refusals.new (line.now ∷ behind)) }
 {
-    match command {
-        ScriptCommand::Call { node, pid, .. } => {
-            let answer = told.answer(*node, *pid, count(taken, *node, *pid));
-            answer_tried(tried, answer)
-        }
-        _ => LineAnswer::NotMade,
-    }
+    refusals.insert(u64::from(line.line), line.code)?;
+    Ok(())
 }
 
-// What a call comes to where that became of it, and where it comes to this if it was taken.
-fn answer_tried(tried: Option<Option<u16>>, answer: LineAnswer) -> LineAnswer
-    ensures { result ≡ answer_tried tried answer }
+/// Writes `not made`, `refused N`, `open`, or the reply.
+pub(crate) fn push_answer(out: &mut String, answer: &LineAnswer) -> Result<(), AllocError>
+    ensures { OnOk result (string_bytes out.new ≡ string_bytes out.old ++ answer_text answer.now) }
 {
-    match tried {
-        None => LineAnswer::NotMade,
-        Some(Some(code)) => LineAnswer::Refused(code),
-        Some(None) => answer,
-    }
-}
-
-// The command comes last of the calls of its process that were taken, if that became of it.
-fn note_taken(
-    taken: &mut Calls,
-    alloc: Global,
-    tried: Option<Option<u16>>,
-    command: &ScriptCommand,
-) -> Result<(), AllocError>
-    ensures { OnOk result ((node pid : ℕ) → list_in taken.new node pid ≡ list_in taken.old node pid ++ (if option_map_or is_taken tried false then op_of node pid command.now else [])) }
-{
-    match tried {
-        Some(None) => note_call(taken, alloc, command),
-        _ => Ok(()),
+    match answer {
+        LineAnswer::NotMade => out.push_str("not made"),
+        LineAnswer::Refused(code) => write!(out, "refused {code}"),
+        LineAnswer::Open => out.push_str("open"),
+        LineAnswer::Replied(reply) => push_reply(out, reply),
     }
 }

@@ -1,6 +1,6 @@
 //! What entries tell of calls.
+use crate::answers::LineAnswer;
 use crate::by_process::{ByProcess, add, value_at};
-use crate::line_answer::LineAnswer;
 use messages::entry::Entry;
 use messages::event::{Event, NodeInput};
 use model::call::CallId;

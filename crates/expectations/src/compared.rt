@@ -1,15 +1,18 @@
 //! Whether a run of a script comes to what the script expects.
-ghost use Rattle.std.specs.Prelude.{[], string_bytes, IfOk};
-ghost use Rattle.std.specs.Option.{option_map};
+ghost use Rattle.std.specs.Prelude.{◌≡◌, option_map, string_bytes, IfOk};
 ghost use Rattle.expectations.specs.rule.Comparisons.{breaks_in_run, IsCompared};
+ghost use Rattle.expectations.specs.rule.Expectations.{expected, is_broken_at};
 
-use crate::answers::run_answers;
-use crate::expected::breaks;
-use crate::report::push_lines;
+use crate::answers::{LineAnswer, push_answer, run_answers};
+use crate::expected::{expected, is_broken};
+use crate::script_reader::ScriptReader;
+use lockscript::operations::Operation;
 use lockscript::refused_line::RefusedLine;
-use lockscript::script_line::ScriptLine;
+use lockscript::script_line::{ScriptCommand, ScriptLine};
 use messages::entry::Entry;
 use std::alloc::{AllocError, Global};
+use std::fmt::Write;
+use texts::text::Text;
 
 /// What a run of the script that the text writes, in which these lines were refused and which has these entries, comes
 /// to otherwise than the text expects: a line for each call whose reply begins with other words, as
@@ -27,10 +30,59 @@ pub fn compared(
     ensures { IfOk result (λ told. IsCompared (breaks_in_run text.now lines.now refused.now entries.now) (option_map (λ t. string_bytes t) told)) }
 {
     let answers = run_answers(alloc, lines, refused, entries)?;
-    if !breaks(alloc, text, lines, answers.as_slice())? {
-        return Ok(None);
-    }
+    let mut reader = ScriptReader::new(text);
     let mut told = String::new(alloc);
-    push_lines(&mut told, alloc, text, lines, answers.as_slice())?;
-    Ok(Some(told))
+    let mut breaks = false;
+    let mut index = 0usize;
+    for line in lines {
+        if push_broken(&mut told, alloc, &mut reader, line, answers.get(index))? {
+            breaks = true;
+        }
+        index += 1;
+    }
+    if breaks {
+        Ok(Some(told))
+    } else {
+        Ok(None)
+    }
+}
+
+// Writes a line for the line of a script whose answer begins otherwise than the reader's text expects. Answers whether it does.
+fn push_broken(
+    out: &mut String,
+    alloc: Global,
+    reader: &mut ScriptReader<'_>,
+    line: &ScriptLine,
+    answer: Option<&LineAnswer>,
+) -> Result<bool, AllocError>
+    ensures same { reader.new.text.now ≡ reader.old.text.now }
+    ensures broken { IfOk result (λ broken. broken ≡ is_broken_at (expected reader.old.text.now line.now) (option_map (λ a. a.now) answer.entry)) }
+{
+    let words = expected(reader, line);
+    let Some(answer) = answer else {
+        return Ok(false);
+    };
+    if !is_broken(alloc, words, answer)? {
+        return Ok(false);
+    }
+    push_answered(out, line, answer)?;
+    let wanted = words.unwrap_or("");
+    writeln!(out, ", expected {wanted}")?;
+    Ok(true)
+}
+
+// Writes the line of a call with its answer, without its end.
+fn push_answered(
+    out: &mut String,
+    line: &ScriptLine,
+    answer: &LineAnswer,
+) -> Result<(), AllocError> {
+    let number = line.number();
+    write!(out, "  line {number}: ")?;
+    if let ScriptCommand::Call { node, pid, op } = line.command() {
+        write!(out, "{node} {pid} ")?;
+        Operation::write(&op, out)?;
+    }
+    out.push_str(" -> ")?;
+    push_answer(out, answer)
 }

@@ -1,8 +1,8 @@
 //! What comments of a script expect of its calls.
-ghost use Rattle.std.specs.Prelude.{◌≡◌, option_map, slice_get, Some, IfOk};
-ghost use Rattle.expectations.specs.rule.Expectations.{begins, breaks, expected, is_broken, is_broken_at, words_in, words_of};
+ghost use Rattle.std.specs.Prelude.{◌≡◌, option_map, Some, IfOk};
+ghost use Rattle.expectations.specs.rule.Expectations.{begins, expected, is_broken, words_in, words_of};
 
-use crate::line_answer::{LineAnswer, push_answer};
+use crate::answers::{LineAnswer, push_answer};
 use crate::script_reader::{ScriptReader, split_feed};
 use lockscript::script_line::{ScriptCommand, ScriptLine};
 use std::alloc::{AllocError, Global};
@@ -41,58 +41,6 @@ fn words_of<'a>(line: &'a str) -> Option<&'a str>
     ensures { option_map (λ words. words.now) result ≡ words_of line.entry.now }
 {
     after(line, EXPECT)
-}
-
-/// Whether some answer to the lines of a script begins otherwise than the text expects.
-///
-/// # Errors
-/// `AllocError` where a request for memory was refused.
-pub(crate) fn breaks(
-    alloc: Global,
-    text: &str,
-    lines: &[ScriptLine],
-    answers: &[LineAnswer],
-) -> Result<bool, AllocError>
-    ensures { IfOk result (λ broken. broken ≡ breaks text.now lines.now answers.now) }
-{
-    let mut reader = ScriptReader::new(text);
-    let mut index = 0usize;
-    for line in lines {
-        if breaks_at(alloc, &mut reader, line, answers, index)? {
-            return Ok(true);
-        }
-        index += 1;
-    }
-    Ok(false)
-}
-
-// Whether the answer at the index begins otherwise than is expected of the line.
-fn breaks_at(
-    alloc: Global,
-    reader: &mut ScriptReader<'_>,
-    line: &ScriptLine,
-    answers: &[LineAnswer],
-    index: usize,
-) -> Result<bool, AllocError>
-    ensures same { reader.new.text.now ≡ reader.old.text.now }
-    ensures broken { IfOk result (λ broken. broken ≡ is_broken_at (expected reader.old.text.now line.now) (slice_get answers.now index)) }
-{
-    let words = expected(reader, line);
-    is_broken_at(alloc, words, answers.get(index))
-}
-
-// Whether there is an answer, and its text begins otherwise than is expected.
-fn is_broken_at(
-    alloc: Global,
-    words: Option<&str>,
-    answer: Option<&LineAnswer>,
-) -> Result<bool, AllocError>
-    ensures { IfOk result (λ broken. broken ≡ is_broken_at (option_map (λ w. w.now) words.entry) (option_map (λ a. a.now) answer.entry)) }
-{
-    match answer {
-        Some(answer) => is_broken(alloc, words, answer),
-        None => Ok(false),
-    }
 }
 
 /// Whether the text of the answer begins otherwise than is expected.

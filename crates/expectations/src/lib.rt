@@ -8,10 +8,6 @@
 mod answers;
 mod by_process;
 mod call_replies;
-mod calls;
 pub mod compared;
 mod expected;
-pub mod line_answer;
-mod report;
 mod script_reader;
-mod tries;

@@ -1,5 +1,5 @@
 -- What the calls of a script come to in a run of it.
-use Rattle.std.specs.Prelude.{ℕ, ◌==◌, ◌&&◌, Bool, true, false, if◌then◌else◌, List, [], ◌∷◌, ◌++◌, codes, count_by, decimal, find, flat_map, length, option_map, option_to_list, slice_get, take, Option, Some, None}
+use Rattle.std.specs.Prelude.{ℕ, ◌==◌, ◌&&◌, Bool, false, if◌then◌else◌, List, [], ◌∷◌, ◌++◌, codes, decimal, find, flat_map, length, option_map, option_to_list, slice_get, Option, Some, None}
 use Rattle.model.specs.declared.call.CallId.{CallId}
 use Rattle.model.specs.declared.reply.Reply.{Reply}
 use Rattle.messages.specs.declared.event.Event.{Event}
@@ -12,9 +12,8 @@ use Rattle.lockscript.specs.declared.script_line.ScriptCommand.{ScriptCommand}
 use Rattle.lockscript.specs.declared.script_line.ScriptCommand.TheVariants.{Call}
 use Rattle.lockscript.specs.rule.Scripts.{LineFields}
 use Rattle.lockscript.specs.rule.Texts.{reply_text}
-use Rattle.expectations.specs.declared.line_answer.LineAnswer.{LineAnswer}
-use Rattle.expectations.specs.declared.line_answer.LineAnswer.TheVariants.{NotMade, Refused, Open, Replied}
-use Rattle.expectations.specs.rule.Calls.{calls_of}
+use Rattle.expectations.specs.declared.answers.LineAnswer.{LineAnswer}
+use Rattle.expectations.specs.declared.answers.LineAnswer.TheVariants.{NotMade, Refused, Open, Replied}
 
 abbrev pub answer_text : LineAnswer → List ℕ
 answer_text NotMade = codes "not made"
@@ -31,18 +30,19 @@ abbrev pub is_call_by : ℕ → ℕ → Event → Bool
 is_call_by node pid (AtNode n (input.Call p op)) = (n == node) && (p == pid)
 is_call_by node pid _ = false
 
--- the same of a line
+-- the same of the command of a line
 abbrev pub calls_by : ℕ → ℕ → ScriptCommand → Bool
 calls_by node pid (Call n p op) = (n == node) && (p == pid)
 calls_by node pid _ = false
 
--- of a line that is a call of the process, the number of its refusal, or none where it was taken
-abbrev pub tried : List RefusedLine → ℕ → ℕ → LineFields → List (Option ℕ)
-tried refused node pid l = if calls_by node pid l.command then refusal_of refused l.number ∷ [] else []
+-- whether the command, of a line that was refused so, or was not, is a call of this process that was taken
+abbrev pub is_taken : Option ℕ → ℕ → ℕ → ScriptCommand → Bool
+is_taken (Some code) node pid command = false
+is_taken None node pid command = calls_by node pid command
 
--- the same of each call of the process among the lines, in their order
-abbrev pub tries : List RefusedLine → ℕ → ℕ → List LineFields → List (Option ℕ)
-tries refused node pid lines = flat_map (tried refused node pid) lines
+-- the numbers of the lines that are calls of the process and were taken
+abbrev pub taken : List RefusedLine → ℕ → ℕ → List LineFields → List ℕ
+taken refused node pid lines = flat_map (λ l. if is_taken (refusal_of refused l.number) node pid l.command then l.number ∷ [] else []) lines
 
 -- the names of the calls of the process, in the order in which they were taken
 abbrev pub names : ℕ → ℕ → List EntryFields → List CallId
@@ -67,31 +67,17 @@ abbrev pub named_answer : Option CallId → List EntryFields → LineAnswer
 named_answer None entries = Open
 named_answer (Some call) entries = reply_answer call entries
 
-abbrev pub is_taken : Option ℕ → Bool
-is_taken None = true
-is_taken (Some code) = false
+-- what a call comes to that was refused so, or was not, where so many calls of its process were taken before it: each has the next name
+abbrev pub call_answer : Option ℕ → ℕ → List CallId → List EntryFields → LineAnswer
+call_answer (Some code) before named entries = Refused code
+call_answer None before named entries = named_answer (slice_get named before) entries
 
--- how many of the calls were taken
-abbrev pub count_taken : List (Option ℕ) → ℕ
-count_taken tries = count_by is_taken tries
-
--- what a call comes to, by what was tried up to it, itself last: of those that were taken each has the next name
-abbrev pub tried_answer : Option (Option ℕ) → List (Option ℕ) → List CallId → List EntryFields → LineAnswer
-tried_answer None earlier named entries = NotMade
-tried_answer (Some (Some code)) earlier named entries = Refused code
-tried_answer (Some None) earlier named entries = named_answer (slice_get named (count_taken earlier)) entries
-
--- what the call of a process comes to before which so many calls of it stand in the script
-abbrev pub call_answer : ℕ → List (Option ℕ) → List CallId → List EntryFields → LineAnswer
-call_answer before tries named entries = tried_answer (slice_get tries before) (take before tries) named entries
-
--- what a line of a script comes to, behind these commands of it, where these lines are run, by those that are refused and the entries
-abbrev pub answer_behind : List ScriptCommand → ScriptCommand → List LineFields → List RefusedLine → List EntryFields → LineAnswer
-answer_behind earlier (Call node pid op) made refused entries =
-    call_answer (length (calls_of node pid earlier)) (tries refused node pid made) (names node pid entries) entries
-answer_behind earlier _ made refused entries = NotMade
+-- what a line of this number comes to behind these lines, where these of them are refused and these entries are made
+abbrev pub answer_behind : List LineFields → ℕ → ScriptCommand → List RefusedLine → List EntryFields → LineAnswer
+answer_behind earlier number (Call node pid op) refused entries = call_answer (refusal_of refused number) (length (taken refused node pid earlier)) (names node pid entries) entries
+answer_behind earlier number _ refused entries = NotMade
 
 -- what each line comes to
-abbrev pub answers_behind : List ScriptCommand → List LineFields → List LineFields → List RefusedLine → List EntryFields → List LineAnswer
-answers_behind earlier [] made refused entries = []
-answers_behind earlier (l ∷ ls) made refused entries = answer_behind earlier l.command made refused entries ∷ answers_behind (earlier ++ l.command ∷ []) ls made refused entries
+abbrev pub answers_behind : List LineFields → List LineFields → List RefusedLine → List EntryFields → List LineAnswer
+answers_behind earlier [] refused entries = []
+answers_behind earlier (l ∷ ls) refused entries = answer_behind earlier l.number l.command refused entries ∷ answers_behind (earlier ++ l ∷ []) ls refused entries

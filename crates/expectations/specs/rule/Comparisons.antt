@@ -9,7 +9,7 @@ use Rattle.expectations.specs.rule.Expectations.{breaks}
 
 -- in a run some line of the script comes to what begins otherwise than its text expects
 abbrev pub breaks_in_run : List ℕ → List LineFields → List RefusedLine → List EntryFields → Bool
-breaks_in_run text lines refused entries = breaks text lines (answers_behind [] lines lines refused entries)
+breaks_in_run text lines refused entries = breaks text lines (answers_behind [] lines refused entries)
 
 -- the same of a run of which so many entries were there before the script
 abbrev pub breaks_behind : List ℕ → List LineFields → ℕ → PlayedState → Bool

@@ -6,7 +6,7 @@ use Rattle.texts.specs.rule.LineFeeds.{line_feed}
 use Rattle.lockscript.specs.declared.script_line.ScriptCommand.{ScriptCommand}
 use Rattle.lockscript.specs.declared.script_line.ScriptCommand.TheVariants.{Call}
 use Rattle.lockscript.specs.rule.Scripts.{LineFields}
-use Rattle.expectations.specs.declared.line_answer.LineAnswer.{LineAnswer}
+use Rattle.expectations.specs.declared.answers.LineAnswer.{LineAnswer}
 use Rattle.expectations.specs.rule.Answers.{answer_text}
 
 -- the first line of a text, and what stands behind its line feed

@@ -2,7 +2,7 @@ use Rattle.std.proofs.Common.{◌≡◌, ◌∙◌, ◌+◌, ◌-◌, ◌<◌, �
 use Rattle.lockscript.specs.declared.refused_line.RefusedLine.{RefusedLine}
 use Rattle.expectations.specs.rule.Answers.{refusal_of}
 use Rattle.expectations.proofs.Walks.{drop_at}
-use Rattle.expectations.proofs.tries.refusals.Goals as goal
+use Rattle.expectations.proofs.answers.refusals.Goals as goal
 
 pub loop-index-preserved : goal.loop-index-preserved
 loop-index-preserved c number =

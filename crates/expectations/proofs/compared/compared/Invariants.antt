@@ -1,10 +1,11 @@
 use Rattle.std.proofs.Common.{◌≡◌, drop}
+use Rattle.std.specs.Prelude.{◌||◌}
 use Rattle.expectations.specs.rule.Expectations.{breaks, breaks_from}
-use Rattle.expectations.proofs.expected.breaks.Given as goal
+use Rattle.expectations.proofs.compared.compared.Given as goal
 
 abbrev pub invariant-loop-line : goal.invariant-loop-line
 invariant-loop-line l = record {
   counted : l.index ≡ l.line-index;
   read : l.reader.text.now ≡ l.text;
-  same : breaks_from l.text l.answers l.index (drop l.line-index l.lines) ≡ breaks l.text l.lines l.answers;
+  same : (l.breaks || breaks_from l.text l.answers.items l.index (drop l.line-index l.lines)) ≡ breaks l.text l.lines l.answers.items;
 }

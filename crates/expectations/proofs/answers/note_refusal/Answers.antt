@@ -2,7 +2,7 @@ use Rattle.std.proofs.Common.{◌∙◌, ℕ, ◌==◌, Some, ap, cond}
 use Rattle.std.specs.Prelude.{nat_eq}
 use Rattle.std.specs.HashMap.{get}
 use Rattle.expectations.proofs.Walks.{refusal-more}
-use Rattle.expectations.proofs.tries.note_refusal.Goals as goal
+use Rattle.expectations.proofs.answers.note_refusal.Goals as goal
 
 pub returns : goal.returns
 returns c behind knows number =
