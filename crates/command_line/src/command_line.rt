@@ -9,12 +9,11 @@ ghost use Rattle.command_line.specs.rule.Tasks.{task_of, MayBeQuiet};
 ghost use Rattle.command_line.specs.rule.Words.{AsksFor, IsRefusal};
 
 use crate::commands::program;
-use crate::journal_lines::{audit_in, history_in, state_in};
 use crate::judge_line::JudgeLine;
 use crate::judge_words::{judge_complaint, judge_in};
 use crate::refusal::Refusal;
 use crate::run_line::{RunLine, ThreadsLine};
-use crate::values::{GREATEST_SEED, flag_in, number_in};
+use crate::values::{GREATEST_SEED, flag_in, number_if_given, number_in};
 use clap::error::ErrorKind;
 use clap::{ArgMatches, Command, Error};
 use std::alloc::{AllocError, Global};
@@ -167,4 +166,30 @@ fn threads_in<'a>(values: &ArgMatches<'a>) -> Option<CommandLine<'a>>
         no_join,
         journal: file,
     }))
+}
+
+fn audit_in<'a>(values: &ArgMatches<'a>) -> Option<CommandLine<'a>>
+    ensures { IsLineOf (Some (codes "audit", rows_of (found_of values.now))) result }
+{
+    let journal = values.get_str("JOURNAL")?;
+    Some(CommandLine::Audit { journal })
+}
+
+fn history_in<'a>(values: &ArgMatches<'a>) -> Option<CommandLine<'a>>
+    ensures { IsLineOf (Some (codes "history", rows_of (found_of values.now))) result }
+{
+    let journal = values.get_str("JOURNAL")?;
+    let as_clients = flag_in(values, "as-clients")?;
+    Some(CommandLine::History {
+        journal,
+        as_clients,
+    })
+}
+
+fn state_in<'a>(values: &ArgMatches<'a>) -> Option<CommandLine<'a>>
+    ensures { IsLineOf (Some (codes "state", rows_of (found_of values.now))) result }
+{
+    let journal = values.get_str("JOURNAL")?;
+    let at = number_if_given(values, "K", 0, GREATEST_SEED)?;
+    Some(CommandLine::State { journal, at })
 }

@@ -1,13 +1,14 @@
 //! The commands of the program.
 ghost use Rattle.std.specs.Prelude.{◌≡◌, fold, IfOk};
 ghost use Rattle.clap.specs.Words.{app_of};
-ghost use Rattle.command_line.specs.rule.Program.{bare_app, program_app, run_app, threads_app};
+ghost use Rattle.command_line.specs.rule.Program.{audit_app, bare_app, history_app, program_app, run_app, state_app, threads_app};
 ghost use Rattle.command_line.specs.code.Table.{app_given, with_given};
 
 use crate::argument::Argument;
-use crate::journal_commands::{audit_command, history_command, state_command};
 use crate::judge_command::judge_command;
-use crate::notes::{PROGRAM_NOTES, RUN_NOTES, THREADS_NOTES, VERSION};
+use crate::notes::{
+    AUDIT_NOTES, HISTORY_NOTES, PROGRAM_NOTES, RUN_NOTES, STATE_NOTES, THREADS_NOTES, VERSION,
+};
 use crate::subcommand::{Subcommand, bare_command};
 use crate::values::GREATEST_SEED;
 use clap::Command;
@@ -65,6 +66,32 @@ const THREADS: &[Argument<'static>] = &[
         help: "Make failures and starts while calls are open",
     },
     FILE,
+];
+
+const JOURNAL: Argument<'static> = Argument::Word {
+    id: "JOURNAL",
+    help: "The journal: a file of lines, or - for standard input",
+};
+
+const AUDIT: &[Argument<'static>] = &[JOURNAL];
+
+const HISTORY: &[Argument<'static>] = &[
+    JOURNAL,
+    Argument::Flag {
+        name: "as-clients",
+        help: "Print what the clients saw, for 'lockreplay judge'",
+    },
+];
+
+const STATE: &[Argument<'static>] = &[
+    JOURNAL,
+    Argument::Bounded {
+        id: "K",
+        long: "at",
+        least: 0,
+        greatest: GREATEST_SEED,
+        help: "Show the state behind entry K, or with 0 that before the first",
+    },
 ];
 
 /// The program's command line.
@@ -142,5 +169,38 @@ fn threads_command<'a>() -> Subcommand<'a>
         about: "Run a script on threads and print the listing",
         notes: THREADS_NOTES,
         arguments: THREADS,
+    }
+}
+
+fn audit_command<'a>() -> Subcommand<'a>
+    ensures { app_given result ≡ audit_app }
+{
+    Subcommand {
+        name: "audit",
+        about: "Say whether a journal is one of a run",
+        notes: AUDIT_NOTES,
+        arguments: AUDIT,
+    }
+}
+
+fn history_command<'a>() -> Subcommand<'a>
+    ensures { app_given result ≡ history_app }
+{
+    Subcommand {
+        name: "history",
+        about: "Print the history of a journal",
+        notes: HISTORY_NOTES,
+        arguments: HISTORY,
+    }
+}
+
+fn state_command<'a>() -> Subcommand<'a>
+    ensures { app_given result ≡ state_app }
+{
+    Subcommand {
+        name: "state",
+        about: "Show what the cluster of a journal holds",
+        notes: STATE_NOTES,
+        arguments: STATE,
     }
 }

@@ -59,10 +59,6 @@ pub record Tells (run : ThreadRunFields) (t : ThreadedFields) : Type 0 where
   pub stuck : t.stuck ≡ flat_map open_line run.open_calls
   pub none_stuck : run.open_calls ≢ [] → t.may_go_on ≡ false → NoneStuck world
 
--- it tells of some run
-abbrev pub IsThreaded : ThreadedFields → Type 0
-IsThreaded t = (run : ThreadRunFields) × Tells run t
-
 -- of a run of the script, whose failures and starts may stand beside open calls, and which may have been ended where it was stuck
 abbrev pub IsToldOf : ScriptFields → Bool → Bool → ThreadedFields → Type 0
 IsToldOf s no_join may_stop t = (run : ThreadRunFields) × IsOfScript s no_join may_stop run × Tells run t
@@ -82,3 +78,7 @@ ShowsThreads t (Wanting text) = (t.stuck ≡ []) × (t.held ≢ t.answered) × (
 ShowsThreads t (Partial text told) = (t.stuck ≢ []) × (t.may_go_on ≡ false) × (string_bytes text ≡ threads_text t) × (string_bytes told ≡ t.stuck)
 ShowsThreads t (CutShort text) = (t.stuck ≢ []) × (t.may_go_on ≡ true) × (string_bytes text ≡ threads_text t)
 ShowsThreads t shown = ⊥
+
+-- that is shown of it, and this is its journal
+abbrev pub AreShown : ThreadedFields → Shown × JournalFields → Type 0
+AreShown t made = ShowsThreads t made.0 × (journal_text made.1.shape made.1.entries ≡ t.journal)

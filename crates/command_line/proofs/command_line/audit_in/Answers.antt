@@ -2,7 +2,7 @@ use Rattle.std.proofs.Common.{rules, codes, None, Some, [], ◌∷◌, ◌≡◌
 use Rattle.clap.specs.Words.{found_of, rows_of}
 use Rattle.command_line.proofs.Unmet.{no_audit}
 use Rattle.command_line.proofs.Tables.{no_value, value_is}
-use Rattle.command_line.proofs.journal_lines.audit_in.Goals as goal
+use Rattle.command_line.proofs.command_line.audit_in.Goals as goal
 
 pub returns-in_err-journal : goal.returns-in_err-journal
 returns-in_err-journal c =

@@ -2,8 +2,8 @@ use Rattle.std.proofs.Common.{arith, sym, subst, ℕ, ◌+◌, take}
 use Rattle.book.specs.rule.Receipts.{Holds}
 use Rattle.replay.specs.rule.Counts.{IsCount}
 use Rattle.replay.proofs.Counting.{one_more_taken, no_more_taken}
-use Rattle.replay.proofs.held_receipts.held_in.Goals.{then-holds, else-holds}
-use Rattle.replay.proofs.held_receipts.held_in.Goals as goal
+use Rattle.replay.proofs.threaded.held_in.Goals.{then-holds, else-holds}
+use Rattle.replay.proofs.threaded.held_in.Goals as goal
 
 pub loop-receipt-preserved : goal.loop-receipt-preserved
 loop-receipt-preserved c =

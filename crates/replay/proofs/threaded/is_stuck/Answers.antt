@@ -3,7 +3,7 @@ use Rattle.std.proofs.Common.{◌∙◌, ap, arith, sym}
 use Rattle.std.proofs.lemmas.Bool.{eqb-false}
 use Rattle.cluster_core.specs.rule.Parts.{world_state}
 use Rattle.replay.proofs.NoneStuck.{told_blocked}
-use Rattle.replay.proofs.unstuck.is_stuck.Goals as goal
+use Rattle.replay.proofs.threaded.is_stuck.Goals as goal
 
 pub returns : goal.returns
 returns c = λ waits working.

@@ -1,6 +1,6 @@
 use Rattle.std.proofs.Common.{Err, ap, sym, ◌∙◌}
 use Rattle.std.proofs.lemmas.Option.{none-some}
-use Rattle.replay.proofs.on_threads.run_on_threads.Goals as goal
+use Rattle.replay.proofs.threads.run_on_threads.Goals as goal
 
 pub unreachable-requires : goal.unreachable-requires
 unreachable-requires g c =

@@ -6,7 +6,7 @@ use Rattle.cluster_core.specs.rule.Parts.{world_state}
 use Rattle.states.specs.declared.open_call.OpenState.{OpenState}
 use Rattle.states.specs.rule.OpenCalls.{IsOpenState}
 use Rattle.replay.proofs.NoneStuck.{IsExcused, all_excused}
-use Rattle.replay.proofs.unstuck.is_none_stuck.Goals as goal
+use Rattle.replay.proofs.threaded.is_none_stuck.Goals as goal
 
 abbrev asked_of : OpenState → OpenCall
 asked_of o = o.asked
