@@ -1,18 +1,14 @@
 -- What the table of a command says of its parts.
 use Rattle.std.proofs.Common.{ap, arith, refl, sym, true, false, is_some, length, map, not, option_map, Bool, Bor, List, Option, [], ◌∷◌, None, Some, ◌==◌, ◌≡◌, ◌≢◌, ◌∙◌}
-use Rattle.std.specs.Prelude.{fold, get_or}
+use Rattle.std.specs.Prelude.{get_or}
 use Rattle.std.proofs.lemmas.Bool.{ne_eqb}
 use Rattle.clap.specs.Walk.{is_empty, is_simple_arg}
-use Rattle.clap.specs.Words.{all_of, app_of, first_of, first_value, matched_of, new_app, raw_values, rows_of, rule_of, with_rule, App, Rule, Text}
+use Rattle.clap.specs.Words.{all_of, app_of, first_of, first_value, matched_of, raw_values, rows_of, rule_of, App, Rule, Text}
 use Rattle.clap.specs.declared.parser.matches.Found.{Found}
 use Rattle.clap.specs.declared.builder.arg.Arg.{Arg}
 use Rattle.clap.specs.declared.builder.command.Command.{Command}
 use Rattle.clap.specs.declared.builder.command.Command.TheViews.{out-Command}
 use Rattle.clap.proofs.WalkLemmas.{both, first_value-rows, raw_values-rows}
-use Rattle.command_line.specs.code.Table.{app_given, rule_given}
-use Rattle.command_line.specs.declared.argument.Argument.{Argument}
-use Rattle.command_line.specs.declared.argument.Argument.TheVariants.{Word, Words, Value, Values, Number, Bounded, Flag}
-use Rattle.command_line.specs.declared.subcommand.Subcommand.{Subcommand}
 
 is_not : (b : Bool) → not b ≡ true → b ≡ false
 is_not true is = cc
@@ -56,21 +52,3 @@ texts_are found id result texts ensured is = sym (raw_values-rows found id) ∙ 
 pub no_texts : (found : Found) (id : Text) (result : Option (Bor (List (Bor Text))))
     → option_map (λ s. map (λ v. v.now) s.now) result ≡ option_map raw_values (matched_of found id) → result ≡ None → all_of id (rows_of found) ≡ None
 no_texts found id result ensured is = sym (raw_values-rows found id) ∙ (sym ensured ∙ ap (option_map (λ (s : Bor (List (Bor Text))). map (λ (v : Bor Text). v.now) s.now)) is)
-
--- each argument of the table is a simple one
-pub is_simple : (argument : Argument) → (rule_given argument).is_simple ≡ true
-is_simple (Word id help) = refl
-is_simple (Words id help) = refl
-is_simple (Value id long help) = refl
-is_simple (Values id long help) = refl
-is_simple (Number id long default least greatest help) = refl
-is_simple (Bounded id long least greatest help) = refl
-is_simple (Flag name help) = refl
-
--- so each command with such arguments is a plain one
-stays_plain : (rules : List Rule) (app : App) → app.top.is_plain ≡ true → (fold with_rule app rules).top.is_plain ≡ true
-stays_plain [] app plain = plain
-stays_plain (rule ∷ rules) app plain = stays_plain rules (with_rule app rule) plain
-
-pub is_plain : (command : Subcommand) → (app_given command).top.is_plain ≡ true
-is_plain command = stays_plain (map rule_given command.arguments.now) (new_app command.name.now) refl

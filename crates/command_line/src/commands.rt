@@ -1,112 +1,32 @@
 //! The commands of the program.
-ghost use Rattle.std.specs.Prelude.{◌≡◌, fold, IfOk};
-ghost use Rattle.clap.specs.Words.{app_of};
-ghost use Rattle.command_line.specs.rule.Program.{audit_app, bare_app, history_app, program_app, run_app, state_app, threads_app};
-ghost use Rattle.command_line.specs.code.Table.{app_given, with_given};
+ghost use Rattle.std.specs.Prelude.{◌≡◌, codes, IfOk};
+ghost use Rattle.clap.specs.Words.{app_of, rule_of};
+ghost use Rattle.command_line.specs.rule.Program.{allow_rule, audit_app, bare_app, file_rule, history_app, judge_app, paths_rule, program_app, run_app, seed_rule, state_app, steps_rule, threads_app};
 
-use crate::argument::Argument;
-use crate::judge_command::judge_command;
+use crate::judge_notes::JUDGE_NOTES;
 use crate::notes::{
     AUDIT_NOTES, HISTORY_NOTES, PROGRAM_NOTES, RUN_NOTES, STATE_NOTES, THREADS_NOTES, VERSION,
 };
-use crate::subcommand::{Subcommand, bare_command};
+use crate::table::{bare_command, flag, number, option, with_argument, with_command, word};
 use crate::values::GREATEST_SEED;
-use clap::Command;
+use clap::{Arg, ArgAction, Command};
 use std::alloc::{AllocError, Global};
 
-const SCRIPT: Argument<'static> = Argument::Word {
-    id: "SCRIPT",
-    help: "The script: a file of lines, or - for standard input",
-};
+// What help says of a script and of a journal that is read.
+const SCRIPT: &str = "The script: a file of lines, or - for standard input";
 
-const FILE: Argument<'static> = Argument::Value {
-    id: "FILE",
-    long: "journal",
-    help: "Write the journal of the run to FILE",
-};
-
-const RUN: &[Argument<'static>] = &[
-    SCRIPT,
-    Argument::Value {
-        id: "JOURNAL",
-        long: "after",
-        help: "Go on behind the run of JOURNAL",
-    },
-    FILE,
-    Argument::Flag {
-        name: "expect",
-        help: "Compare the replies with the '# expect' lines of SCRIPT",
-    },
-    Argument::Flag {
-        name: "quiet",
-        help: "Make no listing, which needs --journal or --expect",
-    },
-    Argument::Flag {
-        name: "calm",
-        help: "Go on behind SCRIPT until the run is calm",
-    },
-];
-
-const THREADS: &[Argument<'static>] = &[
-    SCRIPT,
-    Argument::Number {
-        id: "N",
-        long: "seed",
-        default: "1",
-        least: 0,
-        greatest: GREATEST_SEED,
-        help: "The seed of the weather that messages meet, up to 4294967295",
-    },
-    Argument::Flag {
-        name: "stop-when-stuck",
-        help: "End the run where no open call can be answered any more",
-    },
-    Argument::Flag {
-        name: "no-join",
-        help: "Make failures and starts while calls are open",
-    },
-    FILE,
-];
-
-const JOURNAL: Argument<'static> = Argument::Word {
-    id: "JOURNAL",
-    help: "The journal: a file of lines, or - for standard input",
-};
-
-const AUDIT: &[Argument<'static>] = &[JOURNAL];
-
-const HISTORY: &[Argument<'static>] = &[
-    JOURNAL,
-    Argument::Flag {
-        name: "as-clients",
-        help: "Print what the clients saw, for 'lockreplay judge'",
-    },
-];
-
-const STATE: &[Argument<'static>] = &[
-    JOURNAL,
-    Argument::Bounded {
-        id: "K",
-        long: "at",
-        least: 0,
-        greatest: GREATEST_SEED,
-        help: "Show the state behind entry K, or with 0 that before the first",
-    },
-];
+const JOURNAL: &str = "The journal: a file of lines, or - for standard input";
 
 /// The program's command line.
 pub(crate) fn program<'a>(alloc: Global) -> Result<Command<'a>, AllocError>
     ensures { IfOk result (λ command. app_of command ≡ program_app) }
 {
-    let commands = [
-        run_command(),
-        threads_command(),
-        audit_command(),
-        history_command(),
-        state_command(),
-        judge_command(),
-    ];
-    with_commands(alloc, bare_program(alloc), &commands)
+    let program = with_command(bare_program(alloc), run_command(alloc)?)?;
+    let program = with_command(program, threads_command(alloc)?)?;
+    let program = with_command(program, audit_command(alloc)?)?;
+    let program = with_command(program, history_command(alloc)?)?;
+    let program = with_command(program, state_command(alloc)?)?;
+    with_command(program, judge_command(alloc)?)
 }
 
 // The program's command line without its commands.
@@ -124,83 +44,116 @@ fn bare_program<'a>(alloc: Global) -> Command<'a>
     .arg_required_else_help(true)
 }
 
-// The program with these commands more.
-fn with_commands<'a>(
-    alloc: Global,
-    bare: Command<'a>,
-    commands: &[Subcommand<'a>],
-) -> Result<Command<'a>, AllocError>
-    ensures { IfOk result (λ r. app_of r ≡ fold with_given (app_of bare.entry) commands.now) }
+fn run_command<'a>(alloc: Global) -> Result<Command<'a>, AllocError>
+    ensures { IfOk result (λ command. app_of command ≡ run_app) }
 {
-    let mut program = bare;
-    for command in commands {
-        program = with_command(alloc, program, command)?;
-    }
-    Ok(program)
+    let about = "Run each line of a script in order and print the listing";
+    let command = bare_command(alloc, "run", about, RUN_NOTES);
+    let command = with_argument(command, word(alloc, "SCRIPT", SCRIPT))?;
+    let help = "Go on behind the run of JOURNAL";
+    let command = with_argument(command, option(alloc, "JOURNAL", "after", help))?;
+    let command = with_argument(command, journal_file(alloc))?;
+    let help = "Compare the replies with the '# expect' lines of SCRIPT";
+    let command = with_argument(command, flag(alloc, "expect", help))?;
+    let help = "Make no listing, which needs --journal or --expect";
+    let command = with_argument(command, flag(alloc, "quiet", help))?;
+    let help = "Go on behind SCRIPT until the run is calm";
+    with_argument(command, flag(alloc, "calm", help))
 }
 
-// The program with one command more.
-fn with_command<'a>(
-    alloc: Global,
-    program: Command<'a>,
-    command: &Subcommand<'a>,
-) -> Result<Command<'a>, AllocError>
-    ensures { IfOk result (λ r. app_of r ≡ with_given (app_of program.entry) command.now) }
+fn threads_command<'a>(alloc: Global) -> Result<Command<'a>, AllocError>
+    ensures { IfOk result (λ command. app_of command ≡ threads_app) }
 {
-    program.subcommand(command.made(alloc)?)
+    let about = "Run a script on threads and print the listing";
+    let command = bare_command(alloc, "threads", about, THREADS_NOTES);
+    let command = with_argument(command, word(alloc, "SCRIPT", SCRIPT))?;
+    let command = with_argument(command, seed(alloc))?;
+    let help = "End the run where no open call can be answered any more";
+    let command = with_argument(command, flag(alloc, "stop-when-stuck", help))?;
+    let help = "Make failures and starts while calls are open";
+    let command = with_argument(command, flag(alloc, "no-join", help))?;
+    with_argument(command, journal_file(alloc))
 }
 
-fn run_command<'a>() -> Subcommand<'a>
-    ensures { app_given result ≡ run_app }
+fn audit_command<'a>(alloc: Global) -> Result<Command<'a>, AllocError>
+    ensures { IfOk result (λ command. app_of command ≡ audit_app) }
 {
-    Subcommand {
-        name: "run",
-        about: "Run each line of a script in order and print the listing",
-        notes: RUN_NOTES,
-        arguments: RUN,
-    }
+    let about = "Say whether a journal is one of a run";
+    let command = bare_command(alloc, "audit", about, AUDIT_NOTES);
+    with_argument(command, word(alloc, "JOURNAL", JOURNAL))
 }
 
-fn threads_command<'a>() -> Subcommand<'a>
-    ensures { app_given result ≡ threads_app }
+fn history_command<'a>(alloc: Global) -> Result<Command<'a>, AllocError>
+    ensures { IfOk result (λ command. app_of command ≡ history_app) }
 {
-    Subcommand {
-        name: "threads",
-        about: "Run a script on threads and print the listing",
-        notes: THREADS_NOTES,
-        arguments: THREADS,
-    }
+    let about = "Print the history of a journal";
+    let command = bare_command(alloc, "history", about, HISTORY_NOTES);
+    let command = with_argument(command, word(alloc, "JOURNAL", JOURNAL))?;
+    let help = "Print what the clients saw, for 'lockreplay judge'";
+    with_argument(command, flag(alloc, "as-clients", help))
 }
 
-fn audit_command<'a>() -> Subcommand<'a>
-    ensures { app_given result ≡ audit_app }
+fn state_command<'a>(alloc: Global) -> Result<Command<'a>, AllocError>
+    ensures { IfOk result (λ command. app_of command ≡ state_app) }
 {
-    Subcommand {
-        name: "audit",
-        about: "Say whether a journal is one of a run",
-        notes: AUDIT_NOTES,
-        arguments: AUDIT,
-    }
+    let about = "Show what the cluster of a journal holds";
+    let command = bare_command(alloc, "state", about, STATE_NOTES);
+    let command = with_argument(command, word(alloc, "JOURNAL", JOURNAL))?;
+    let help = "Show the state behind entry K, or with 0 that before the first";
+    with_argument(command, number(alloc, "K", "at", help, 0, GREATEST_SEED))
 }
 
-fn history_command<'a>() -> Subcommand<'a>
-    ensures { app_given result ≡ history_app }
+fn judge_command<'a>(alloc: Global) -> Result<Command<'a>, AllocError>
+    ensures { IfOk result (λ command. app_of command ≡ judge_app) }
 {
-    Subcommand {
-        name: "history",
-        about: "Print the history of a journal",
-        notes: HISTORY_NOTES,
-        arguments: HISTORY,
-    }
+    let about = "Judge what clients of a lock manager saw";
+    let command = bare_command(alloc, "judge", about, JUDGE_NOTES);
+    let command = with_argument(command, histories(alloc))?;
+    let command = with_argument(command, steps(alloc))?;
+    let help = "Say whether the order in FILE explains HISTORY";
+    let command = with_argument(command, option(alloc, "FILE", "explains", help))?;
+    let command = with_argument(command, rules(alloc))?;
+    let help = "Print an order of the calls that explains them";
+    let command = with_argument(command, flag(alloc, "order", help))?;
+    let help = "Leave out what fits nowhere, and go on behind it";
+    let command = with_argument(command, flag(alloc, "go-on", help))?;
+    let help = "Print counts of calls and of tables";
+    let command = with_argument(command, flag(alloc, "stats", help))?;
+    let help = "Print the text as JSON";
+    with_argument(command, flag(alloc, "json", help))
 }
 
-fn state_command<'a>() -> Subcommand<'a>
-    ensures { app_given result ≡ state_app }
+fn journal_file<'a>(alloc: Global) -> Arg<'a>
+    ensures { rule_of result ≡ file_rule }
 {
-    Subcommand {
-        name: "state",
-        about: "Show what the cluster of a journal holds",
-        notes: STATE_NOTES,
-        arguments: STATE,
-    }
+    let help = "Write the journal of the run to FILE";
+    option(alloc, "FILE", "journal", help)
+}
+
+fn seed<'a>(alloc: Global) -> Arg<'a>
+    ensures { rule_of result ≡ seed_rule }
+{
+    let help = "The seed of the weather that messages meet, up to 4294967295";
+    number(alloc, "N", "seed", help, 0, GREATEST_SEED).default_value("1")
+}
+
+fn histories<'a>(alloc: Global) -> Arg<'a>
+    ensures { rule_of result ≡ paths_rule (codes "HISTORY") }
+{
+    let help = "The history: a file of lines, or - for standard input";
+    word(alloc, "HISTORY", help).action(ArgAction::Append)
+}
+
+fn steps<'a>(alloc: Global) -> Arg<'a>
+    ensures { rule_of result ≡ steps_rule }
+{
+    let help = "How many tables of a file are looked at, up to 4294967295";
+    number(alloc, "N", "steps", help, 1, GREATEST_SEED).default_value("10000000")
+}
+
+fn rules<'a>(alloc: Global) -> Arg<'a>
+    ensures { rule_of result ≡ allow_rule }
+{
+    let help = "Allow a difference from one table, as wait-drops";
+    option(alloc, "RULE", "allow", help).action(ArgAction::Append)
 }

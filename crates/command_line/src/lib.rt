@@ -3,10 +3,8 @@
 #![tactic(auto)]
 
 pub mod allowed_rule;
-mod argument;
 pub mod command_line;
 mod commands;
-mod judge_command;
 pub mod judge_line;
 mod judge_notes;
 mod judge_words;
@@ -14,5 +12,5 @@ pub mod laws;
 mod notes;
 pub mod refusal;
 pub mod run_line;
-mod subcommand;
+pub mod table;
 mod values;

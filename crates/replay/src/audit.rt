@@ -153,7 +153,7 @@ pub(crate) fn checked<'a, S: Store>(
     ensures files { SameFiles (S.holds store.old) (S.holds store.new) }
 {
     let text = text_of(alloc, store, path)?;
-    audited(alloc, text)
+    checked_text(alloc, text)
 }
 
 // What an audit of the journal of a file comes to, behind which a run is to go on. One of version 1 is
@@ -171,11 +171,11 @@ pub(crate) fn checked_new<'a, S: Store>(
     if is_old(text.as_str()) {
         return Err(Fault::OldJournal);
     }
-    audited(alloc, text)
+    checked_text(alloc, text)
 }
 
 // What an audit of the journal that the text writes comes to. The text goes once its entries are read.
-fn audited<'a>(alloc: Global, text: String) -> Result<Audited, Fault<'a>>
+fn checked_text<'a>(alloc: Global, text: String) -> Result<Audited, Fault<'a>>
     ensures audited { IfOk result (λ audited. (j : JournalFields) × WritesFew (string_bytes text) j × IsAudited j audited) }
     ensures fault { IfErr result (IsTextFault (string_bytes text)) }
 {

@@ -15,8 +15,8 @@ returns-clause-audited g c =
     let Holds = g.S.Store.holds c.args.store.now c.args.path.now in
     let text = string_bytes c.in_ok-text.text in
     let not_old : IsOld text → ⊥ = λ old. false≢true (sym c.if-is_old.false ∙ c.is_old.ensures.1 (subst IsOld (sym c.as_str.ensures.value) old)) in
-    IfOk-weaker c.audited.result (λ audited. (j : JournalFields) × WritesFew text j × IsAudited j audited) (λ audited. (j : JournalFields) × HasNewJournal Holds j × IsAudited j audited)
-    (λ audited is. (is.0, (has-journal Holds text is.0 c.in_ok-text.ensures.text (IsUtf8-string_bytes c.in_ok-text.text) is.1, is_new text is.0 not_old is.1.0), is.2)) c.audited.ensures.audited
+    IfOk-weaker c.checked_text.result (λ audited. (j : JournalFields) × WritesFew text j × IsAudited j audited) (λ audited. (j : JournalFields) × HasNewJournal Holds j × IsAudited j audited)
+    (λ audited is. (is.0, (has-journal Holds text is.0 c.in_ok-text.ensures.text (IsUtf8-string_bytes c.in_ok-text.text) is.1, is_new text is.0 not_old is.1.0), is.2)) c.checked_text.ensures.audited
 
 pub returns-clause-fault : goal.returns-clause-fault
 returns-clause-fault g c =
@@ -24,5 +24,5 @@ returns-clause-fault g c =
     let RanShort = g.S.Store.ran_short c.text_of.new.store in
     let text = string_bytes c.in_ok-text.text in
     let not_old : IsOld text → ⊥ = λ old. false≢true (sym c.if-is_old.false ∙ c.is_old.ensures.1 (subst IsOld (sym c.as_str.ensures.value) old)) in
-    IfErr-weaker c.audited.result (IsTextFault text) (IsOldFault Holds RanShort c.args.path.now)
-    (λ fault is. old-fault Holds RanShort c.args.path.now text fault c.in_ok-text.ensures.text (IsUtf8-string_bytes c.in_ok-text.text) not_old is) c.audited.ensures.fault
+    IfErr-weaker c.checked_text.result (IsTextFault text) (IsOldFault Holds RanShort c.args.path.now)
+    (λ fault is. old-fault Holds RanShort c.args.path.now text fault c.in_ok-text.ensures.text (IsUtf8-string_bytes c.in_ok-text.text) not_old is) c.checked_text.ensures.fault

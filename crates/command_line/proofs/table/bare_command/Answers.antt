@@ -1,6 +1,6 @@
 use Rattle.std.proofs.Common.{ap, ◌∙◌}
 use Rattle.clap.specs.Simple.{app_of_fields}
-use Rattle.command_line.proofs.subcommand.bare_command.Goals as goal
+use Rattle.command_line.proofs.table.bare_command.Goals as goal
 
 pub returns : goal.returns
 returns c = ap app_of_fields c.after_long_help.ensures ∙ (ap app_of_fields c.about.ensures ∙ c.new.ensures.app)

@@ -4,7 +4,7 @@ use Rattle.cluster_core.specs.rule.Journals.{JournalFields}
 use Rattle.replay.specs.declared.fault.Fault.TheVariants.{NoMemory}
 use Rattle.replay.specs.rule.Audits.{IsAudited, WritesFew}
 use Rattle.replay.specs.rule.Faults.{IsTextFault}
-use Rattle.replay.proofs.audit.audited.Goals as goal
+use Rattle.replay.proofs.audit.checked_text.Goals as goal
 
 pub returns-clause-audited : goal.returns-clause-audited
 returns-clause-audited c =
