@@ -6,10 +6,8 @@
 //! All are `AllocError`, where a request for memory was refused.
 #![tactic(auto)]
 
-mod blockers;
 pub mod cluster_state;
 pub mod open_call;
-mod open_calls;
 mod server_lines;
 pub mod state_text;
 pub mod told_node;

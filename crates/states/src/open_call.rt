@@ -1,13 +1,12 @@
 //! The open calls of a cluster, and which locks block them.
-ghost use Rattle.std.specs.Prelude.{◌≡◌, All, map, IfOk};
+ghost use Rattle.std.specs.Prelude.{◌≡◌, ◌++◌, All, map, IfOk, OnOk};
 ghost use Rattle.cluster_core.specs.rule.Parts.{world_state};
-ghost use Rattle.states.specs.code.Blockers.{blocking_of};
-ghost use Rattle.states.specs.rule.OpenCalls.{is_wait, open_in, IsOpenState};
+ghost use Rattle.states.specs.code.Blockers.{blocking_of, is_blocker};
+ghost use Rattle.states.specs.rule.OpenCalls.{is_wait, open_in, open_on, open_up_to, IsOpenState};
 
-use crate::blockers::blocking_of;
-use crate::open_calls::open_in;
 use cluster_core::held_lock::HeldLock;
 use cluster_core::world::World;
+use model::limits::MOST_NODES;
 use model::lock_info::LockInfo;
 use model::op::LockCommand;
 use node_core::open_call::OpenCall;
@@ -56,4 +55,62 @@ fn state_of(alloc: Global, locks: &[HeldLock], asked: &OpenCall) -> Result<OpenS
         asked: *asked,
         locks,
     })
+}
+
+// The open calls of the live nodes of a world, by node, and then in the order in which the node took them.
+fn open_in(alloc: Global, world: &World) -> Result<Vec<OpenCall>, AllocError>
+    ensures { IfOk result (λ calls. calls.items ≡ open_in (world_state world.now)) }
+{
+    open_up_to(alloc, world, MOST_NODES)
+}
+
+// Those of the nodes up to this one.
+#[tactic(auto, unfolding(crate::specs::rule::OpenCalls::open_up_to))]
+fn open_up_to(alloc: Global, world: &World, count: u8) -> Result<Vec<OpenCall>, AllocError>
+    ensures { IfOk result (λ calls. calls.items ≡ open_up_to (world_state world.now) count) }
+{
+    let mut calls = Vec::new(alloc);
+    for index in 0..count {
+        add_node(&mut calls, world, index + 1)?;
+    }
+    Ok(calls)
+}
+
+// Those of one more node come last.
+fn add_node(calls: &mut Vec<OpenCall>, world: &World, number: u8) -> Result<(), AllocError>
+    ensures { OnOk result (calls.new.items ≡ calls.old.items ++ open_on (world_state world.now) number) }
+{
+    let Some(node) = world.live_node(number) else {
+        return Ok(());
+    };
+    calls.extend_from_slice(node.open_calls())?;
+    Ok(())
+}
+
+// The locks that block the call, of all of a cluster.
+fn blocking_of(
+    alloc: Global,
+    locks: &[HeldLock],
+    asked: &OpenCall,
+) -> Result<Vec<LockInfo>, AllocError>
+    ensures { IfOk result (λ blocking. blocking.items ≡ blocking_of asked.now locks.now) }
+{
+    let mut blocking = Vec::new(alloc);
+    for held in locks {
+        if is_blocker(held, asked) {
+            blocking.push(held.lock)?;
+        }
+    }
+    Ok(blocking)
+}
+
+// Whether the lock blocks the call.
+fn is_blocker(held: &HeldLock, asked: &OpenCall) -> bool
+    ensures { result ≡ is_blocker asked.now held.now }
+{
+    let lock = &held.lock;
+    held.file == asked.file
+        && (lock.owner != asked.owner
+            && (lock.mode.excludes(asked.mode)
+                && (lock.span.lo <= asked.span.hi && asked.span.lo <= lock.span.hi)))
 }

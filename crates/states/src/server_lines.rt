@@ -1,6 +1,6 @@
 //! The lines of what is told of a token server that works.
 ghost use Rattle.std.specs.Prelude.{◌≡◌, ◌++◌, string_bytes, OnOk};
-ghost use Rattle.states.specs.rule.Texts.{awaited_line, awaited_lines, command_line, dead_line, dead_lines, queued_line, queued_lines, request_line, request_of, row_lines, row_lines_of, row_name, row_token_line, row_token_lines, served_line, served_lines, server_lines, server_lines_of, serves_text, waiting_line, waiting_lines, waits_text};
+ghost use Rattle.states.specs.rule.Texts.{awaited_line, awaited_lines, command_line, dead_line, dead_lines, put_line, put_lines, request_line, request_of, row_lines, row_lines_of, row_name, row_token_line, row_token_lines, served_line, served_lines, server_lines, server_lines_of, serves_text, waits_text};
 
 use crate::told_server::{KnownDead, ToldServer};
 use intervals::span::Span;
@@ -39,8 +39,8 @@ fn push_server(out: &mut String, version: Version, server: &ToldServer) -> Resul
 {
     let file = server.file;
     push_served(out, version, file, server.served.as_slice())?;
-    push_queued(out, version, file, server.queued.as_slice())?;
-    push_waiting(out, version, file, server.waiting.as_slice())?;
+    push_requests(out, version, file, "queued", server.queued.as_slice())?;
+    push_requests(out, version, file, "waiting", server.waiting.as_slice())?;
     push_rows(out, version, file, server.rows.as_slice())?;
     push_awaited(out, file, server.awaited.as_slice())?;
     push_dead(out, file, server.dead.as_slice())
@@ -90,61 +90,34 @@ fn push_waits(out: &mut String, at: u8) -> Result<(), AllocError>
     write!(out, "waits for node {at} to answer: ")
 }
 
-// Writes the lines of queued requests.
-fn push_queued(
+// Writes the lines of requests that are queued or wait for a lock to go, as the word says.
+fn push_requests(
     out: &mut String,
     version: Version,
     file: FileNumber,
+    word: &str,
     requests: &[TokenRequest],
 ) -> Result<(), AllocError>
-    ensures { OnOk result (string_bytes out.new ≡ string_bytes out.old ++ queued_lines version file requests.now) }
+    ensures { OnOk result (string_bytes out.new ≡ string_bytes out.old ++ put_lines version file word.now requests.now) }
 {
     for request in requests {
-        push_queued_request(out, version, file, request)?;
+        push_put_request(out, version, file, word, request)?;
     }
     Ok(())
 }
 
 // Writes the line of one of them.
-fn push_queued_request(
+fn push_put_request(
     out: &mut String,
     version: Version,
     file: FileNumber,
+    word: &str,
     request: &TokenRequest,
 ) -> Result<(), AllocError>
-    ensures { OnOk result (string_bytes out.new ≡ string_bytes out.old ++ queued_line version file request.now) }
+    ensures { OnOk result (string_bytes out.new ≡ string_bytes out.old ++ put_line version file word.now request.now) }
 {
     let number = file.get();
-    write!(out, "server {number} queued: ")?;
-    push_request(out, version, file, request)
-}
-
-// Writes the lines of requests that wait for a lock to go.
-fn push_waiting(
-    out: &mut String,
-    version: Version,
-    file: FileNumber,
-    requests: &[TokenRequest],
-) -> Result<(), AllocError>
-    ensures { OnOk result (string_bytes out.new ≡ string_bytes out.old ++ waiting_lines version file requests.now) }
-{
-    for request in requests {
-        push_waiting_request(out, version, file, request)?;
-    }
-    Ok(())
-}
-
-// Writes the line of one of them.
-fn push_waiting_request(
-    out: &mut String,
-    version: Version,
-    file: FileNumber,
-    request: &TokenRequest,
-) -> Result<(), AllocError>
-    ensures { OnOk result (string_bytes out.new ≡ string_bytes out.old ++ waiting_line version file request.now) }
-{
-    let number = file.get();
-    write!(out, "server {number} waiting: ")?;
+    write!(out, "server {number} {word}: ")?;
     push_request(out, version, file, request)
 }
 

@@ -3,7 +3,7 @@ ghost use Rattle.std.specs.Prelude.{◌≡◌, IfOk, map};
 ghost use Rattle.model.specs.rule.Limits.{most_nodes};
 ghost use Rattle.token_server.specs.rule.Parts.{server_state};
 ghost use Rattle.states.specs.rule.Texts.{failed_epoch};
-ghost use Rattle.states.specs.rule.States.{AreRows, AreServed, IsToldServer, known_dead, knows_dead, numbers_where};
+ghost use Rattle.states.specs.rule.States.{AreRows, IsToldServer, known_dead, knows_dead, numbers_where};
 
 use messages::file_number::FileNumber;
 use model::limits::MOST_NODES;
@@ -74,7 +74,7 @@ impl ToldServer {
     {
         Ok(ToldServer {
             file,
-            served: served(alloc, server)?,
+            served: Vec::from_slice(alloc, server.served())?,
             queued: server.queued(alloc)?,
             waiting: server.waiting(alloc)?,
             rows: rows(alloc, server)?,
@@ -82,13 +82,6 @@ impl ToldServer {
             dead: dead(alloc, server)?,
         })
     }
-}
-
-// The requests that the server serves.
-fn served(alloc: Global, server: &Server) -> Result<Vec<ActiveRequest>, AllocError>
-    ensures { IfOk result (λ held. AreServed (server_state server.now) held.items) }
-{
-    Vec::from_slice(alloc, server.served())
 }
 
 // The rows of the server, as they are shown.

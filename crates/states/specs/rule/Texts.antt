@@ -101,17 +101,11 @@ served_line version file h = serves_text file ++ (waits_text h.at ++ request_lin
 abbrev pub served_lines : Version → ℕ → List ActiveRequest → List ℕ
 served_lines version file served = flat_map (served_line version file) served
 
-abbrev pub queued_line : Version → ℕ → TokenRequest → List ℕ
-queued_line version file r = codes "server " ++ decimal file ++ codes " queued: " ++ request_line version file r
+abbrev pub put_line : Version → ℕ → List ℕ → TokenRequest → List ℕ
+put_line version file word r = codes "server " ++ decimal file ++ codes " " ++ word ++ codes ": " ++ request_line version file r
 
-abbrev pub queued_lines : Version → ℕ → List TokenRequest → List ℕ
-queued_lines version file requests = flat_map (queued_line version file) requests
-
-abbrev pub waiting_line : Version → ℕ → TokenRequest → List ℕ
-waiting_line version file r = codes "server " ++ decimal file ++ codes " waiting: " ++ request_line version file r
-
-abbrev pub waiting_lines : Version → ℕ → List TokenRequest → List ℕ
-waiting_lines version file requests = flat_map (waiting_line version file) requests
+abbrev pub put_lines : Version → ℕ → List ℕ → List TokenRequest → List ℕ
+put_lines version file word requests = flat_map (put_line version file word) requests
 
 -- of a row: how many commands the node was given in this epoch, its token, and the command that has no answer
 abbrev pub row_name : ℕ → ShownRow → List ℕ
@@ -149,7 +143,7 @@ dead_lines file dead = flat_map (dead_line file) dead
 -- of a server
 abbrev pub server_lines : Version → ToldServer → List ℕ
 server_lines version s =
-    served_lines version s.file s.served.items ++ queued_lines version s.file s.queued.items ++ waiting_lines version s.file s.waiting.items ++ row_lines_of version s.file s.rows.items ++ awaited_lines s.file s.awaited.items
+    served_lines version s.file s.served.items ++ put_lines version s.file (codes "queued") s.queued.items ++ put_lines version s.file (codes "waiting") s.waiting.items ++ row_lines_of version s.file s.rows.items ++ awaited_lines s.file s.awaited.items
     ++ dead_lines s.file s.dead.items
 
 abbrev pub server_lines_of : Version → List ToldServer → List ℕ
