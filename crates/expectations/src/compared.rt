@@ -4,8 +4,7 @@ ghost use Rattle.expectations.specs.rule.Comparisons.{breaks_in_run, IsCompared}
 ghost use Rattle.expectations.specs.rule.Expectations.{expected, is_broken_at};
 
 use crate::answers::{LineAnswer, push_answer, run_answers};
-use crate::expected::{expected, is_broken};
-use crate::script_reader::ScriptReader;
+use crate::expected::{ScriptReader, expected, is_broken};
 use lockscript::operations::Operation;
 use lockscript::refused_line::RefusedLine;
 use lockscript::script_line::{ScriptCommand, ScriptLine};
@@ -40,11 +39,7 @@ pub fn compared(
         }
         index += 1;
     }
-    if breaks {
-        Ok(Some(told))
-    } else {
-        Ok(None)
-    }
+    if breaks { Ok(Some(told)) } else { Ok(None) }
 }
 
 // Writes a line for the line of a script whose answer begins otherwise than the reader's text expects. Answers whether it does.

@@ -10,4 +10,3 @@ mod by_process;
 mod call_replies;
 pub mod compared;
 mod expected;
-mod script_reader;

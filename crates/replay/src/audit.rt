@@ -1,25 +1,26 @@
 //! Whether the journal of a file is one of a run, and its history.
-ghost use Rattle.std.specs.Prelude.{◌≡◌, ◌≢◌, ◌≤◌, length, string_bytes, IfErr, IfOk};
+ghost use Rattle.std.specs.Prelude.{◌≡◌, ◌≢◌, ◌≤◌, length, string_bytes, IfErr, IfOk, ◌<◌, ◌+◌, [], None};
 ghost use Rattle.cluster_core.specs.rule.Journals.{JournalFields};
 ghost use Rattle.cluster_core.specs.rule.World.{journal_limit};
 ghost use Rattle.command_line.specs.rule.Tasks.{audit, history};
 ghost use Rattle.journal_text.specs.rule.Readings.{HasLength};
 ghost use Rattle.replay.specs.declared.fault.Fault.TheVariants.{CannotWriteOutput, NoMemory};
-ghost use Rattle.replay.specs.rule.Audits.{HasJournal, HasNewJournal, IsAudited, IsHistoryText, IsHistoryUnless, IsVerdict, WritesFew};
+ghost use Rattle.replay.specs.rule.Audits.{HasJournal, HasNewJournal, IsAudited, IsHistoryText, IsHistoryUnless, IsVerdict, WritesFew, Knows};
 ghost use Rattle.replay.specs.rule.Commands.{Does, IsFault};
 ghost use Rattle.replay.specs.rule.Faults.{IsJournalFault, IsOldFault, IsTextFault};
 ghost use Rattle.replay.specs.rule.Stores.{SameFiles};
+ghost use Rattle.cluster_core.specs.rule.Parts.{world_state};
 
-use crate::auditor::Auditor;
 use crate::fault::Fault;
 use crate::input::text_of;
 use crate::listing::push_history_of;
 use crate::shown::Shown;
 use crate::store::Store;
 use cluster_core::check_error::CheckError;
-use cluster_core::journal::Journal;
-use cluster_core::world::JOURNAL_LIMIT;
+use cluster_core::journal::{Journal, comes_next};
+use cluster_core::world::{JOURNAL_LIMIT, World};
 use journal_text::parse::{is_old, measure, read_each, shape_of};
+use journal_text::sink::Sink;
 use messages::entry::Entry;
 use messages::shape::Shape;
 use player::watcher::Watcher;
@@ -243,4 +244,64 @@ fn history_of(alloc: Global, journal: &Journal) -> Result<String, AllocError>
     let mut text = String::new(alloc);
     push_history_of(&mut text, alloc, journal)?;
     Ok(text)
+}
+
+// An audit of entries that come one after the other. None is kept, and a watcher is told of each.
+#[derive(Drop)]
+pub(crate) struct Auditor<'a, V> {
+    // Where the entries so far led, while each was the next step.
+    world: World,
+    // How many entries came, or one more than a journal may have where they are more.
+    pub(crate) taken: u32,
+    // The position of the first that was not.
+    pub(crate) wrong: Option<u32>,
+    watcher: &'a mut V,
+}
+
+// One entry more, but no more than one more than a journal may have.
+fn counted(taken: u32) -> u32
+    ensures more { taken ≤ journal_limit → result ≡ taken + 1 }
+    ensures full { journal_limit < taken → result ≡ taken }
+{
+    if taken > JOURNAL_LIMIT {
+        taken
+    } else {
+        taken + 1
+    }
+}
+
+impl<'a, V: Watcher> Auditor<'a, V> {
+    // Before the first entry.
+    pub(crate) fn new(
+        alloc: Global,
+        shape: Shape,
+        watcher: &'a mut V,
+    ) -> Result<Auditor<'a, V>, AllocError>
+        ensures { IfOk result (λ auditor. Knows shape (world_state auditor.world) auditor.taken auditor.wrong []) }
+    {
+        Ok(Auditor {
+            world: World::new(alloc, shape)?,
+            taken: 0,
+            wrong: None,
+            watcher,
+        })
+    }
+}
+
+impl<V: Watcher> Sink for Auditor<'_, V> {
+    ghost took = { λ a s es. Knows s (world_state a.world) a.taken a.wrong es };
+
+    fn take(&mut self, alloc: Global, entry: Entry) -> Result<(), AllocError> {
+        self.watcher.pass();
+        let taken = counted(self.taken);
+        if self.wrong.is_some() {
+            self.taken = taken;
+            return Ok(());
+        }
+        if !comes_next(&mut self.world, alloc, &entry)? {
+            self.wrong = Some(taken);
+        }
+        self.taken = taken;
+        Ok(())
+    }
 }

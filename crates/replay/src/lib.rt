@@ -3,8 +3,6 @@
 #![tactic(auto)]
 
 mod audit;
-mod auditor;
-mod calmed;
 pub mod disk;
 pub mod disk_draft;
 pub mod drafted;
@@ -28,4 +26,3 @@ pub mod store;
 mod threaded;
 mod threads;
 pub mod words;
-mod world_behind;

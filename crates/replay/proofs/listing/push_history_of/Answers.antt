@@ -17,9 +17,11 @@ returns c =
     ap (λ (es : List Entry). items_in (standing es 0 c.as_slice.result.now)) c.entries.ensures.value
     ∙ (ap (λ (ss : List Slot). items_in (standing c.args.journal.now.entries 0 ss)) c.as_slice.ensures.value
     ∙ ap items_in c.in_ok-slots.ensures.stands) in
-    on_ok_weaker c.push_items.result (λ wrote.
-        (history_text history, (history, c.places.ensures.history, c.places.ensures.at_places, refl),
-        wrote
-        ∙ (ap (λ (items : List Item). string_bytes c.push_str.new.self ++ lines items) same
-        ∙ (ap (λ (bytes : List ℕ). bytes ++ lines history) c.in_ok-push_str.ensures
-        ∙ append_assoc (string_bytes c.args.out.now) (codes "history\n") (lines history))))) c.push_items.ensures
+    on_ok_weaker c.push_items.result (λ wrote. (
+      history_text history,
+      (history, c.places.ensures.history, c.places.ensures.at_places, refl),
+      wrote
+          ∙ (ap (λ (items : List Item). string_bytes c.push_str.new.self ++ lines items) same
+          ∙ (ap (λ (bytes : List ℕ). bytes ++ lines history) c.in_ok-push_str.ensures
+          ∙ append_assoc (string_bytes c.args.out.now) (codes "history\n") (lines history))),
+    )) c.push_items.ensures

@@ -2,7 +2,7 @@ use denote.Shadow.{shadow}
 use denote.Text.{Utf8}
 use Rattle.std.proofs.Common.{◌≡◌, Some}
 use Rattle.expectations.specs.rule.Expectations.{behind}
-use Rattle.expectations.proofs.script_reader.behind.Given as goal
+use Rattle.expectations.proofs.expected.behind.Given as goal
 
 abbrev pub invariant-loop-left : goal.invariant-loop-left
 invariant-loop-left l = record {

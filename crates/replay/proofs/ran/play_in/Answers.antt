@@ -2,7 +2,7 @@ use Rattle.std.proofs.Common.{Bool, subst, sym}
 use Rattle.std.specs.Prelude.{is_some}
 use Rattle.player.specs.code.Parts.{state_of}
 use Rattle.replay.specs.rule.Scripts.{Comes}
-use Rattle.replay.proofs.calmed.play_in.Goals as goal
+use Rattle.replay.proofs.ran.play_in.Goals as goal
 
 pub returns-in_ok-played-clause-played : goal.returns-in_ok-played-clause-played
 returns-in_ok-played-clause-played g c =

@@ -1,8 +1,8 @@
 use Rattle.std.proofs.Common.{sym}
 use Rattle.cluster_core.specs.rule.Parts.{world_state}
 use Rattle.replay.proofs.Audits.{counts-more, tells-more, tells-next, tells-wrong}
-use Rattle.replay.proofs.auditor.AuditorSink.take.Goals as goal
-use Rattle.replay.proofs.auditor.AuditorSink.take.Goals.{then-not-branch, else-not-branch}
+use Rattle.replay.proofs.audit.AuditorSink.take.Goals as goal
+use Rattle.replay.proofs.audit.AuditorSink.take.Goals.{then-not-branch, else-not-branch}
 
 pub returns-then-is_some : goal.returns-then-is_some
 returns-then-is_some g c = λ s es knows.

@@ -5,7 +5,7 @@ use Rattle.cluster_core.specs.rule.Runs.{Leads}
 use Rattle.cluster_core.specs.rule.World.{first_world}
 use Rattle.cluster_core.proofs.runs.Replayed.{replayed_count, replayed_more, replayed_next, replayed_none}
 use Rattle.replay.proofs.Begins.{read-take, same-take}
-use Rattle.replay.proofs.world_behind.world_behind.Goals as goal
+use Rattle.replay.proofs.state.world_behind.Goals as goal
 
 pub loop-entry-init : goal.loop-entry-init
 loop-entry-init c =

@@ -1,6 +1,6 @@
 use Rattle.std.proofs.Common.{◌≡◌, ℕ, List, Option, Some, None, MatchOption, subst}
 use Rattle.expectations.proofs.Words.{behind-on}
-use Rattle.expectations.proofs.script_reader.ScriptReader.rest_behind.Goals as goal
+use Rattle.expectations.proofs.expected.ScriptReader.rest_behind.Goals as goal
 
 pub returns : goal.returns
 returns c =
