@@ -19,7 +19,6 @@ pub mod perform;
 mod ran;
 pub mod respond;
 mod run;
-mod showing;
 pub mod shown;
 mod state;
 pub mod store;

@@ -2,7 +2,7 @@ use Rattle.command_line.specs.rule.JudgeTasks.{judge_task_of}
 use Rattle.command_line.specs.rule.Tasks.{judge}
 use Rattle.replay.specs.rule.Judging.{IsJudgedWith}
 use Rattle.replay.proofs.Tools.{tool-result}
-use Rattle.replay.proofs.showing.shown_of.Goals as goal
+use Rattle.replay.proofs.perform.shown_of.Goals as goal
 
 pub returns-in-Judge-clause-fault : goal.returns-in-Judge-clause-fault
 returns-in-Judge-clause-fault g c =
