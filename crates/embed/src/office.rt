@@ -1,7 +1,6 @@
 //! The office of the token server.
 use crate::letter::ServerLetter;
 use crate::wire::message_in;
-use anyhow::bail;
 use distances::pace::Pace;
 use messages::event::{Event, ServerInput};
 use messages::sends::Sends;
@@ -50,30 +49,28 @@ impl Office {
     fn take(&mut self, rt: &HostRuntime, letter: ServerLetter) -> anyhow::Result<Sends> {
         match letter {
             ServerLetter::Declared { node, incarnation } => {
-                let news = ServerInput::Learn { node, incarnation };
-                self.step(rt.alloc(), Event::AtServer(FILE, news))
+                self.learn(rt.alloc(), ServerInput::Learn { node, incarnation })
             }
             ServerLetter::Line(line) => self.deliver(rt.alloc(), &line),
             ServerLetter::Tick => self.tick(rt),
         }
     }
 
-    // The message of the line comes. What the server sends. A line of no message is lost.
-    fn deliver(&mut self, alloc: Global, line: &str) -> anyhow::Result<Sends> {
-        match message_in(alloc, line)? {
-            Some(message) => self.step(alloc, Event::Deliver(SharedMessage::new(alloc, message)?)),
-            None => Ok(Sends::nothing()),
-        }
+    // The server learns of a declaration. What it sends.
+    fn learn(&mut self, alloc: Global, news: ServerInput) -> anyhow::Result<Sends> {
+        self.pace = self.pace.noted(&Event::AtServer(FILE, news));
+        let change = self.server.plan(alloc, &ServerEvent::Input(news))?;
+        Ok(self.server.apply(change).sends)
     }
 
-    // The event happens. What the server sends.
-    fn step(&mut self, alloc: Global, event: Event) -> anyhow::Result<Sends> {
-        let change = match &event {
-            Event::Deliver(message) => self.server.plan_delivery(alloc, message.get())?,
-            Event::AtServer(_, input) => self.server.plan(alloc, &ServerEvent::Input(*input))?,
-            _ => bail!("no event of a server"),
+    // The message of the line comes. What the server sends. A line of no message is lost.
+    fn deliver(&mut self, alloc: Global, line: &str) -> anyhow::Result<Sends> {
+        let Some(message) = message_in(alloc, line)? else {
+            return Ok(Sends::nothing());
         };
-        self.pace = self.pace.noted(&event);
+        let message = SharedMessage::new(alloc, message)?;
+        self.pace = self.pace.noted(&Event::Deliver(message.share()?));
+        let change = self.server.plan_delivery(alloc, message.get())?;
         Ok(self.server.apply(change).sends)
     }
 
