@@ -19,8 +19,8 @@ from nuvatsimo.words import Argument, Command, Option
 _TEXT = """\
 Each SCRIPT is read. Each bad line, of the first hundred, is told in a line on standard
 error, with the place in it where it goes wrong, and then how many more there are (exit
-status 3):
-  SCRIPT:LINE:COLUMN: expected .., found ".."
+status 3); COLUMN counts characters, from 1:
+  two.lock:4:10: expected an operation, found "spwan" (did you mean "spawn"?)
 Where all lines are good, the text is 'script yes' and one of these (exit status 0):
   threads yes     'lockreplay threads' takes every line
   threads no L    line L, counted from 1, is the first that it doesn't take
@@ -33,8 +33,8 @@ one, the text is 'journal yes' and one of these (exit status 0):
 Else it is told on standard error where its text goes wrong, as that it was cut off (exit
 status 3).
 
-Of several files each line of the text begins with 'SCRIPT: ', but with --json, where each
-is told in one line. Where one can't be read, or with --journal FILE no journal could be
+Of several files each line of the text begins with 'SCRIPT: '; with --json each file is
+told in one line. Where one can't be read, or with --journal FILE no journal could be
 written to FILE, standard error says why (exit status 3); FILE stays as it is.
 
 Standard error also warns of a '# expect' line that counts for nothing, and of a line that

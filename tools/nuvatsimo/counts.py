@@ -46,9 +46,17 @@ COMMAND = Command(
     (Option("--json", "Print the text as JSON"),),
     """\
 The journal is audited first. Where its entries are no run, the text is 'audit no K', as
-of 'lockreplay audit' (exit status 1). Else the text counts what the run has (exit status
-0): events, messages and calls by kind, and for each stretch of a file what was done
-about it.
+of 'lockreplay audit' (exit status 1). Else the text has how many entries there are of each
+kind, and how many messages of each kind were sent, again too, and delivered (exit status
+0). By file a row 'FIRST LAST NUMBER..' stands for each longest stretch of bytes with the
+same numbers. They count what touches a byte:
+  locks              sets and waits that were done or denied, or are open
+  denied, open       those among them that were denied, that are open
+  unlocks, queries   those that got a reply
+  waited             the sum of the entries from each of these calls to its reply
+  requests, revokes  of tokens for the bytes that a call needs
+  grants, released   what a node got, and gave up when it was asked
+What a close or an exit drops is not counted.
 """,
 )
 

@@ -9,10 +9,16 @@ from nuvatsimo.words import MORE, Command
 
 ABOUT = "Run scripts of record locks in a cluster, and print what came of them"
 _USAGE = "Usage: lockreplay <COMMAND>"
+_TRY = """\
+Try, in a clone:
+  lockreplay run examples/denied.lock
+  lockreplay judge examples/judge/found/close-keeps-locks.history
+  lockreplay from-strace examples/lost-lock.strace
+"""
 _PROVED = (
     ("run", "Run each line of a script in order and print the listing"),
     ("threads", "Run a script on threads and print the listing"),
-    ("audit", "Say whether a journal is one of a run"),
+    ("audit", "Check that a journal records a possible run"),
     ("history", "Print the history of a journal"),
     ("state", "Show what the cluster of a journal holds"),
     ("judge", "Judge what clients of a lock manager saw"),
@@ -33,69 +39,62 @@ _TOOLS = (
     ("help", "Print this message or the help of the given command"),
 )
 _NOTES = """\
-Exit status:
-  0  done; of a command that reads a journal, but check: it is one of a run
-  1  a command that reads a journal, but check, and --after: it is not one of a run;
-     explain, picture: it has no such call; state: no such entry, node or file; picture:
-     entries that were asked for are not drawn; threads: the journal lacks a receipt, or
-     the run was stopped as stuck; run --calm: its rounds were cut off; explore and
-     run --expect: an outcome is not as expected; explore --all: not all schedules were
-     gone through; from-strace: a part of the recording is not served; judge: a history,
-     or an order of one, is contradicted; merge: the logs have no order
-  2  the words of the command line are refused
-  3  SCRIPT, JOURNAL or HISTORY has a bad line, that or RECORDING can't be read, JOURNAL
-     is too old to go on from, PLACES places no process, or FILE or the text can't be
-     written; check: a file has bad lines
-  4  no memory, or more entries than a journal may have (1048576)
-  5  judge: whether a history is contradicted is not known; threads: a run was stopped
-     where a call could still be answered, for all that is known
-Standard error says which, of 2 to 4: at 3 and 4 in one line, but of check in one for each
-of the first hundred bad lines of a script, and one for how many more there are. Where run
-or threads says 'bad line L', 'lockreplay check SCRIPT' tells why, and where audit or
-history does, 'lockreplay check JOURNAL'. Of a file that can't be read these four tell no
-reason, which 'lockreplay check FILE' does; the commands of the tools tell it.
-
-Where a file is read, - is standard input. FILE is the name of a file also where it is -.
-
-A journal is a file that holds the entries of a run in their order, each with its reply
-and the messages that it sends. To keep the journal of a run, to see later whether its
-entries are a run, and to print their history:
+Examples. Play a script, keep the journal of the run, and check that it is one:
   lockreplay run SCRIPT --journal FILE
   lockreplay audit FILE
-  lockreplay history FILE
-To go on behind it:
+Go on behind it, and print the one order of its calls:
   lockreplay run SCRIPT --after FILE
-To see why its entries are none, and how much it has of what:
-  lockreplay audit FILE --why
-  lockreplay stats FILE
-To see which of its calls have no reply, what became of a call, by its name, and what nodes
-and servers hold behind entry 12:
-  lockreplay open FILE
+  lockreplay history FILE
+Tell what became of a call, which calls have no reply, and what nodes and servers hold
+behind entry 12:
   lockreplay explain FILE 2.1.3
+  lockreplay open FILE
   lockreplay state FILE --at 12
-To see it as a picture or as a sequence diagram:
+See it as a picture, or count what is in it:
   lockreplay picture FILE > run.svg
-  lockreplay picture FILE --format mermaid > run.mmd
-To run a script under many schedules, and to see the script of one of them, of seed 7:
+  lockreplay stats FILE
+See why a journal is no run, and what is wrong in scripts:
+  lockreplay audit FILE --why
+  lockreplay check SCRIPT SCRIPT
+Compare each reply with what the script expects, under one schedule or under many:
+  lockreplay run SCRIPT --expect --quiet
   lockreplay explore SCRIPT
   lockreplay schedule SCRIPT --seed 7
-To make a script of what programs did, which strace recorded to a file:
+Turn what strace recorded into a script, and judge what clients of any lock manager saw:
   lockreplay from-strace RECORDING
-To see what is wrong in scripts, and whether each reply of a run is as its script expects:
-  lockreplay check SCRIPT SCRIPT
-  lockreplay run SCRIPT --expect --quiet
-To see whether what clients of any lock manager saw contradicts itself, as one that
-strace recorded:
   lockreplay judge HISTORY
   lockreplay from-strace RECORDING --history | lockreplay judge -
-To have each node and each token server as a process that reads and writes lines, the list
-of those that failed and began again, and one journal of their logs ('lockreplay seat
---help' and so on tell more):
+Have each node and each token server as a process that reads and writes lines, keep the
+list of those that failed, and make one journal of their logs:
   lockreplay seat node 1 --nodes 2 --files 1 --policy wide --log LOG
   lockreplay members --nodes 2 --files 1 --state LIST
   lockreplay merge LOG LOG LOG --members LIST --journal FILE
-
 'lockreplay help run' tells how a script is written and what the listing shows.
+
+Where a file is read, - is standard input. FILE is the name of a file also where it is -.
+
+Exit status:
+  0  any command               done; a journal that it reads is one of a run
+  1  any that reads a journal  it is not one of a run, or lacks what is asked for
+  1  run --expect, explore     an answer is not as expected
+  1  run --calm                its rounds were cut off
+  1  explore                   a call is blocked for good, and nothing says that it may be
+  1  explore --all             not all schedules were gone through
+  1  threads                   a receipt is lacking, or the run was stopped as stuck
+  1  judge                     a history, or an order of one, is contradicted
+  1  merge                     the logs have no order
+  1  from-strace, picture      a part is not served, or not drawn
+  2  any command               the words of the command line are refused
+  3  any command               a file has a bad line, can't be read or can't be written
+  3  run --after, from-strace  the journal is too old; PLACES places no process
+  4  any command               no memory, or more entries than a journal may have (1048576)
+  5  judge                     it is not known whether a history is contradicted
+  5  threads                   the run was stopped where a call could still be answered
+
+Standard error says which of 2 to 5 it is, in one line; 'check' has one for each of the
+first hundred bad lines. Where run or threads says 'bad line L', 'lockreplay check SCRIPT'
+tells why; where audit or history does, 'lockreplay check JOURNAL'. These four don't tell
+why a file can't be read: 'lockreplay check FILE' does.
 """
 _HELP = """\
 Print this message or the help of the given command
@@ -122,7 +121,7 @@ def long_help() -> str:
     """Returns what `help` prints."""
     options = "  -h, --help\n          Print help (see a summary with '-h')\n\n"
     options += "  -V, --version\n          Print version\n"
-    return f"{ABOUT}\n\n{_USAGE}\n\n{commands()}\nOptions:\n{options}\n{_NOTES}"
+    return f"{ABOUT}\n\n{_USAGE}\n\n{_TRY}\n{commands()}\nOptions:\n{options}\n{_NOTES}"
 
 
 def short_help() -> str:

@@ -27,11 +27,17 @@ COMMAND = Command(
 The journal is audited first. Where its entries are no run, the text is 'audit no K', as
 of 'lockreplay audit' (exit status 1).
 
-The text has a part for each call that has no reply, as it is at the journal's end: since
-which entry it is open, of which process it is and what it asks; each lock in its way, or
-else where its request is; and which messages about it were not delivered. Behind them
-stand cycles of waits. Where every call has a reply, nothing is printed. The exit status
-is 0 in both cases. 'lockreplay explain' tells more of one call.
+Each call that has no reply at the journal's end is told: since which entry it is open,
+whose it is, what it asks, and why it is open (exit status 0):
+  blocked: LOCK    a lock in the way of a wait
+  failed: ..       its server does not work
+  served: ..       its request is served, and a node has to answer a command first
+  queued: ..       its request waits behind another, or until nodes have reported
+  waiting: ..      its server does not know that a lock went: a resend helps
+  unknown: ..      its server has no request of it
+Messages about it that were not delivered follow. Last come cycles of waits, one for each
+knot: a call waits for another where a lock of that one's process blocks it, or a lock of
+the description through which the other asks. 'lockreplay explain' tells more of a call.
 """,
 )
 

@@ -11,23 +11,19 @@ from nuvatsimo.journal import Source, opened
 from nuvatsimo.words import Argument, Command, Option
 
 _TEXT = """\
-The entries are taken as a run of the cluster of the first line, one step after the
-other. The text is one of these:
-  audit yes      the entries are a run (exit status 0)
-  audit no K     entry K, counted from 1, is the first that is not the next step
-                 of a run (exit status 1)
-With --why it is told behind 'audit no K' why: the line of the entry, and that its event
-is refused there, with a code as of 'lockreplay run', or what its event makes there and
-where the entry that was found differs from it first.
-
-Every run has a history, in which one table of locks gives each reply of the run.
-'lockreplay history' prints it. Where the text is no journal ('bad line L'), 'lockreplay
+With --why it is told behind 'audit no K' why entry K is not the next step:
+  line L: entry K EVENT            the entry, and its first line in the journal
+  refused: code C, REASON          its event is refused, with a code as of 'lockreplay run'
+  first difference: line M, PART   else the part of the entry that differs first: 'event',
+                                   'reply' or 'send P'
+  made: LINE, found: LINE          that part as it is made, and as the journal has it
+All lines of both entries follow. Where the text is no journal ('bad line L'), 'lockreplay
 check JOURNAL' tells why.
 """
 
 COMMAND = Command(
     "audit",
-    "Say whether a journal is one of a run",
+    "Check that a journal records a possible run",
     (Argument("journal", "JOURNAL", "The journal: a file of lines, or - for standard input"),),
     (Option("--why", "Tell why the journal is none of a run"),),
     _TEXT,

@@ -30,15 +30,20 @@ COMMAND = Command(
 The journal is audited first. Where its entries are no run, the text is 'audit no K', as
 of 'lockreplay audit' (exit status 1).
 
-CALL is the name of a call as replies and history show it: its node, the incarnation of
-the node and the number of the call there, as 2.1.3. The text tells each entry that has
-to do with the call: who made it; each message about it with its number, as 'deliver K'
-of a script counts, from whom it goes to whom; which lock was in the way, and when its
-node told that locks may be gone; where a node or the server on which the call depends
-fails or begins again, and where the server hears that a node failed; its reply, and of
-a close, an exit or an unlock the locks that go by it; which messages about it were not
-delivered; where the history places it, or else which entry ended it (exit status 0).
-Where the journal has no call of that name, the text is 'no call CALL' (exit status 1).
+CALL is the name of a call as replies and history show it: node 2, its incarnation 1, the
+third call there. Each entry that has to do with the call is told (exit status 0):
+  entry 9: process 1 of node 2 calls: ..    who made the call
+  entry 10: message 4 comes to server 1     a message that names it; 4 as in 'deliver 4'
+  sends message 5 to node 1: ..             a message that the entry sends
+  in the way: LOCK, may be gone: LOCK       a lock that stops it; that its node told of
+  reply: ..                                 its reply
+  goes: file F LOCK, stays: file F LOCK     what a close, an exit, an unlock frees and leaves
+  not delivered: ..                         a message about it that did not come
+  ended at entry K, gone since entry K      its process exits there, its node fails there
+  history: at entry 13 (its reply)          where the one order has it
+Up to the reply it also has failures and starts of its node, of its file's server, and of
+nodes that this asked for a token or a report. Where the journal has no call of that
+name, the text is 'no call CALL' (exit status 1).
 """,
 )
 _FREEING = ("close", "exit", "unlock")

@@ -74,10 +74,19 @@ EXPLORE = Command(
     ),
     """\
 The script is one that 'lockreplay threads' takes. It is run under COUNT schedules, of
-the seeds from N on, in which messages are reordered, lost and repeated. With --failures
-a node and a server may fail too, by chance and once each at most. The text tells the
-distinct outcomes: how often each came, and its first seed, whose schedule 'lockreplay
-schedule' prints.
+the seeds from N on. The text tells the distinct outcomes: how often each came, and its
+first seed, whose schedule 'lockreplay schedule' prints.
+
+The calls up to a line that is no call happen side by side, each process's own in order.
+What comes next is drawn from all that may: of eight messages one is lost, of sixteen that
+come one comes again. Where nothing may come and a call is open, servers send again and
+open calls are tried again, up to four times. With --failures a node and a server may fail
+too, once each at most. An outcome has an answer of each call:
+  a reply, or refused CODE    as 'lockreplay run' has it
+  open, not delivered yet     no lock of another owner blocks it
+  open, blocked for good      such a lock does, and every other open call is blocked too
+  open                        else, as where its node or its server failed
+  not made                    a call of its process before it is open
 
 A comment line right behind a 'call' line says what its reply begins with, letter by
 letter:
@@ -88,12 +97,12 @@ and no such comment stands behind it: '# expect open' says that it may stay so. 
 there is neither, the status is 0.
 
 With --all the script, a small one, is run under every schedule instead; --seeds, --first,
---failures and --json don't go with it. Messages are reordered, up to LOSSES of them are
-lost, and up to REPEATS times one comes again. Where nothing is under way and a call is
-open that no lock blocks, its node and its server send again. Where an outcome is not as
-expected, a shortest schedule that comes to one is printed below the outcomes. Where there
-are more than STATES states, the text says that not all schedules were gone through, and
-the exit status is 1 too.
+--failures and --json don't go with it. Messages come in any order, up to LOSSES of them
+are lost, and up to REPEATS times one comes again. Where nothing is under way and a call
+is open that no lock blocks, its node and its server send again, eight times at most
+without a reply between. Schedules that come to one state go on as one. A shortest one
+that breaks what is expected is printed below the outcomes. Where there are more than
+STATES states, the text says that not all schedules were gone through (exit status 1).
 """,
 )
 

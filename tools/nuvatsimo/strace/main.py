@@ -18,24 +18,33 @@ _HELP = """\
 RECORDING is what this writes of a program and of the processes that it begins:
   strace -f -e trace=fcntl,open,openat,openat2,creat,dup,dup2,dup3,close,close_range,clone,\
 clone3,fork,vfork,execve,execveat,exit_group -o RECORDING PROGRAM
-The text is a script, for 'lockreplay run', of the locks and descriptors of that
-program, with the kernel's answers as '# expect' lines. The files that are locked and the
-processes are numbered. Each recorded process that opens a file that is locked, and that
-none of these began, is placed on the next node, of the N nodes in turn; its children are
-on its node. A node that stays empty is told.
+The text is a script, for 'lockreplay run', of the locks and descriptors of that program.
+Comment lines '# expect' have the kernel's answers, others the paths and PIDs. Each process
+that opens a file that is locked, and that none of these began, is placed on the next of
+the N nodes, in turn; its children are on its node. A node that stays empty is told.
+  fork, clone, dup                  are as recorded; a thread is its process
+  fcntl: a lock that was got        stands where the call returned, and so does a query
+  fcntl: another                    stands where it began
+  a wait that a signal ended        is interrupted
+  a file                            is its path, as strace -y tells it, or else its open
+  a descriptor without an open      is opened rw at its first lock call, where -y tells
+                                    the path; not for F_OFD_SETLK
+  F_GETLK                           asks about the segment of the answer, which strace
+                                    writes over what was asked
+Two calls that exclude each other and overlap may stand in another order than the kernel's.
 
 With --place PID=NODE,.. each recorded process of such a PID is on node NODE, from 1 to N.
 It begins there by itself, with no descriptor of the process that began it. Where PLACES
 is no such list, or a NODE is past N, no script is made (exit status 3).
 
 What is not served is told on standard error, by the line of RECORDING, the first hundred
-times, and then how often more; the script is that of the other lines, and the exit
-status is 1. Else it is 0.
+times, and then how often more. The script has the other lines, and the exit status is 1.
 
 With --history the text is a history of clients, for 'lockreplay judge', of what the
 processes saw; there are no nodes then. Each line of RECORDING needs its time since 1970
-(strace -ttt; with -T its length too, with -y the paths of its files). Recordings of
-several machines are given together, each as NAME=RECORDING:
+(strace -ttt; with -T its length too, with -y the paths of its files). A call begins at
+the time before its line, and ends where it is resumed, else before the next line, and as
+soon as -T says. Recordings of several machines are given together, as NAME=RECORDING:
   lockreplay from-strace --history a=a.strace b=b.strace
 A line whose time is missing or goes back is told as RECORDING:LINE (exit status 3).
 """
