@@ -44,8 +44,9 @@ pub fn placed(alloc: Global, journal: &Journal) -> Result<History, AllocError>
     // After the run tokens of two nodes don't conflict, and locks are covered by tokens.
     ensures safe { LeadsToSafe journal.now.shape journal.now.entries }
 {
+    let entries = journal.entries();
     let slots = places(alloc, journal)?;
-    let items = items_in(alloc, journal.entries(), slots.as_slice())?;
+    let items = items_in(alloc, entries, slots.as_slice())?;
     Ok(History::of_rising(journal.shape().version(), items))
 }
 

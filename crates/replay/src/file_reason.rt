@@ -19,8 +19,6 @@ pub enum FileReason {
     NoSpace,
     /// The disk is not to be written.
     ReadOnlyDisk,
-    /// The file may be written, but no other may take its place.
-    CannotReplace,
     /// No file may have this name.
     BadName,
     /// Its links lead round in a circle.
@@ -45,7 +43,6 @@ impl FileReason {
             FileReason::NotText { .. } => "not UTF-8 at line ",
             FileReason::NoSpace => "no space left",
             FileReason::ReadOnlyDisk => "the disk is read-only",
-            FileReason::CannotReplace => "it can't be replaced",
             FileReason::BadName => "no file may have this name",
             FileReason::LinksInACircle => "its links lead round in a circle",
             FileReason::InUse => "it is in use",

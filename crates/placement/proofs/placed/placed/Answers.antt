@@ -21,15 +21,15 @@ items_in-requires c = omega (arith, ap length c.as_slice.ensures.value, c.in_ok-
 
 pub of_rising-requires : goal.of_rising-requires
 of_rising-requires c =
-    let made = in_history c.args.journal.now.entries c.entries.result.now c.in_ok-slots.slots.items c.as_slice.result.now c.in_ok-items.items.items c.in_ok-items.ensures c.entries.ensures.value c.as_slice.ensures.value c.in_ok-slots.ensures.stands in
+    let made = in_history c.args.journal.now.entries c.entries-entries.result.now c.in_ok-slots.slots.items c.as_slice.result.now c.in_ok-items.items.items c.in_ok-items.ensures c.entries-entries.ensures.value c.as_slice.ensures.value c.in_ok-slots.ensures.stands in
     subst Rising (sym made) c.places.ensures.history.fits.rising
 
 pub returns-clause-history : goal.returns-clause-history
 returns-clause-history c =
-    let made = in_history c.args.journal.now.entries c.entries.result.now c.in_ok-slots.slots.items c.as_slice.result.now c.in_ok-items.items.items c.in_ok-items.ensures c.entries.ensures.value c.as_slice.ensures.value c.in_ok-slots.ensures.stands in
+    let made = in_history c.args.journal.now.entries c.entries-entries.result.now c.in_ok-slots.slots.items c.as_slice.result.now c.in_ok-items.items.items c.in_ok-items.ensures c.entries-entries.ensures.value c.as_slice.ensures.value c.in_ok-slots.ensures.stands in
     subst (HasHistory c.args.journal.now.shape c.args.journal.now.entries) (sym (ap (λ (h : HistoryParts). h.items) c.of_rising.ensures ∙ made)) c.places.ensures.history
 
 pub returns-clause-at_places : goal.returns-clause-at_places
 returns-clause-at_places c =
-    let made = in_history c.args.journal.now.entries c.entries.result.now c.in_ok-slots.slots.items c.as_slice.result.now c.in_ok-items.items.items c.in_ok-items.ensures c.entries.ensures.value c.as_slice.ensures.value c.in_ok-slots.ensures.stands in
+    let made = in_history c.args.journal.now.entries c.entries-entries.result.now c.in_ok-slots.slots.items c.as_slice.result.now c.in_ok-items.items.items c.in_ok-items.ensures c.entries-entries.ensures.value c.as_slice.ensures.value c.in_ok-slots.ensures.stands in
     subst (EachAtItsPlace c.args.journal.now.entries) (sym (ap (λ (h : HistoryParts). h.items) c.of_rising.ensures ∙ made)) c.places.ensures.at_places
