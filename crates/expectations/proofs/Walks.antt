@@ -1,6 +1,6 @@
 -- One step of a walk over a script or entries.
 use Rattle.std.proofs.Common.{◌≡◌, ℕ, ◌+◌, ◌<◌, ◌==◌, Bool, true, false, cond, List, [], ◌∷◌, ◌++◌, length, get_or, drop, refl, sym, ap, ◌∙◌, drop-cons, add-one, append_assoc, Option, Some}
-use Rattle.std.specs.Prelude.{if◌then◌else◌, find, option_map}
+use Rattle.std.specs.Prelude.{◌||◌, if◌then◌else◌, find, option_map}
 use Rattle.std.proofs.lemmas.Grind.{flat_map-append}
 use Rattle.std.proofs.lemmas.List.{append-nil}
 use Rattle.messages.specs.rule.Entries.{EntryFields}
@@ -62,3 +62,8 @@ answers-next earlier more l rest refused entries answers new a all is here on be
     ∙ append_assoc answers (a ∷ []) after
     ∙ ap (λ (b : LineAnswer). answers ++ b ∷ after) here
     ∙ before
+
+-- one of three, however they are grouped
+pub or-over : (a b c : Bool) → ((a || b) || c) ≡ (a || (b || c))
+or-over true b c = refl
+or-over false b c = refl

@@ -1,5 +1,5 @@
 //! Whether a run of a script comes to what the script expects.
-ghost use Rattle.std.specs.Prelude.{◌≡◌, option_map, string_bytes, IfOk};
+ghost use Rattle.std.specs.Prelude.{◌≡◌, ◌||◌, option_map, slice_get, string_bytes, IfOk};
 ghost use Rattle.expectations.specs.rule.Comparisons.{breaks_in_run, IsCompared};
 ghost use Rattle.expectations.specs.rule.Expectations.{expected, is_broken_at};
 
@@ -34,12 +34,25 @@ pub fn compared(
     let mut breaks = false;
     let mut index = 0usize;
     for line in lines {
-        if push_broken(&mut told, alloc, &mut reader, line, answers.get(index))? {
-            breaks = true;
-        }
+        let answer = answer_at(answers.as_slice(), index);
+        let is_broken = push_broken(&mut told, alloc, &mut reader, line, answer)?;
+        breaks = is_either(breaks, is_broken);
         index += 1;
     }
     if breaks { Ok(Some(told)) } else { Ok(None) }
+}
+
+// The answer at the index, if there is one.
+fn answer_at(answers: &[LineAnswer], index: usize) -> Option<&LineAnswer>
+    ensures { option_map (λ a. a.now) result ≡ slice_get answers.now index }
+{
+    answers.get(index)
+}
+
+fn is_either(one: bool, other: bool) -> bool
+    ensures { result ≡ (one || other) }
+{
+    one || other
 }
 
 // Writes a line for the line of a script whose answer begins otherwise than the reader's text expects. Answers whether it does.
