@@ -1,3 +1,2 @@
 pub mod Drops
 pub mod Seconds
-pub mod Steps

@@ -5,6 +5,7 @@ ghost use Rattle.history_text.specs.rule.Files.{AreBefore};
 ghost use Rattle.history_text.specs.rule.Owners.{most_owners, owner_numbered};
 ghost use Rattle.history_text.specs.rule.Readings.{IsRead, IsPaired};
 
+use crate::asked_call::Operation;
 use crate::error::{BadWord, LineError};
 use crate::file_calls::FileCalls;
 use crate::files::{add_file, push_call, push_steps};
@@ -13,7 +14,7 @@ use crate::known_names::{CallBody, CallLine, KnownNames};
 use crate::line_words::LineWords;
 use crate::owners::owner_of;
 use crate::rule::Allowed;
-use crate::steps::{Steps, steps_of};
+use crate::steps::{Asked, Steps, steps_of};
 use crate::written_history::LineCounts;
 use client_history::act::Act;
 use client_history::client_call::ClientCall;
@@ -109,14 +110,10 @@ impl HistoryReader {
             .next_call(alloc, &self.head.machines, line, words)?;
         match deed {
             CallBody::Exits => self.counts.exits += 1,
-            CallBody::Asks {
-                file,
-                operation,
-                reply,
-                told,
-            } => {
+            CallBody::Asks { file, asked } => {
+                let operation: Operation = asked.operation; // tells the proof the type of a call's operation
                 add_file(alloc, &mut self.files, file)?;
-                match steps_of(&operation, reply, told, allowed) {
+                match steps_of(&Asked { operation, ..asked }, allowed) {
                     Steps::None => self.counts.silent += 1,
                     Steps::One(act) => {
                         let call = call_of(owner, begin, end, act);

@@ -4,12 +4,13 @@ ghost use Rattle.history_text.specs.rule.Times.{IsTimed};
 ghost use Rattle.history_text.specs.rule.Lives.{HasBegun};
 ghost use Rattle.history_text.specs.rule.Readings.{IsSound, Learns, NamesOf};
 
-use crate::asked_call::{AskedCall, Operation, Reply, end_exit, next_asked};
+use crate::asked_call::{AskedCall, end_exit, next_asked};
 use crate::error::{BadWord, LineError};
 use crate::line_words::{LineWord, LineWords, next_end, next_time};
 use crate::machines::{Machine, check_owner};
 use crate::names::Names;
 use crate::owners::{Exit, Owners, owner_of};
+use crate::steps::Asked;
 use client_history::told_lock::ToldLock;
 use std::alloc::Global;
 
@@ -27,14 +28,8 @@ pub(crate) struct CallLine {
 pub(crate) enum CallBody {
     /// The exit of the call's owner.
     Exits,
-    /// An operation on the file of this number, the first word of its reply, if it has one, and the lock that the
-    /// reply names.
-    Asks {
-        file: usize,
-        operation: Operation,
-        reply: Option<Reply>,
-        told: ToldLock,
-    },
+    /// An operation on the file of this number, with its reply.
+    Asks { file: usize, asked: Asked },
 }
 
 /// The owners and the files that lines name.
@@ -150,12 +145,12 @@ impl KnownNames {
     {
         let file = self.files.number_of(alloc, asked.file)?;
         let told = self.told(alloc, asked)?;
-        Ok(CallBody::Asks {
-            file,
+        let asked = Asked {
             operation: asked.operation,
             reply: asked.reply,
             told,
-        })
+        };
+        Ok(CallBody::Asks { file, asked })
     }
 
     // What the reply to a call says of a lock.

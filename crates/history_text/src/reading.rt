@@ -5,7 +5,9 @@ ghost use Rattle.history_text.specs.rule.Readings.{HasRead};
 
 use crate::error::{BadWord, LineError, ReadError};
 use crate::files::end_files;
+use crate::head::Head;
 use crate::history_reader::HistoryReader;
+use crate::known_names::KnownNames;
 use crate::rule::Allowed;
 use crate::written_history::WrittenHistory;
 use std::alloc::Global;
@@ -62,10 +64,15 @@ pub fn read(alloc: Global, text: &str, allowed: Allowed) -> Result<WrittenHistor
         return Err(LineError::Bad(0, BadWord::NoHead).at(count.saturating_add(1), ""));
     }
     end_files(alloc, &mut files, &known.files, &known.owners, &head.losses)?;
+    let Head { machines, .. } = head;
+    let KnownNames {
+        owners,
+        files: names,
+    } = known;
     Ok(WrittenHistory {
-        machines: head.machines,
-        owners: known.owners.names,
-        names: known.files,
+        machines,
+        owners: owners.names,
+        names,
         files,
         counts,
     })

@@ -1,12 +1,20 @@
 //! The steps of calls: what each did to locks, where a lock manager may differ from one table.
 ghost use Rattle.std.specs.Prelude.{◌≡◌, false};
-ghost use Rattle.history_text.specs.code.Steps.{IsWhole};
+ghost use Rattle.history_text.specs.rule.Readings.{IsWhole};
 
 use crate::asked_call::{Operation, Reply};
 use crate::rule::Allowed;
 use client_history::act::Act;
 use client_history::told_lock::ToldLock;
 use model::mode::Mode;
+
+/// An operation on a file, the first word of its reply, if there is one, and the lock that the reply names.
+#[derive(Clone, Copy)]
+pub(crate) struct Asked {
+    pub(crate) operation: Operation,
+    pub(crate) reply: Option<Reply>,
+    pub(crate) told: ToldLock,
+}
 
 /// The steps of a call on the locks of its file, as far as its reply says: none, one or two acts.
 #[derive(Clone, Copy)]
@@ -17,20 +25,16 @@ pub(crate) enum Steps {
 }
 
 /// The steps of a call on the locks of its file, where these rules are allowed: as far as the reply says, if there is
-/// one, which tells of the lock. A call without a reply has the steps of one that is done, if they may change a lock.
-pub(crate) fn steps_of(
-    operation: &Operation,
-    reply: Option<Reply>,
-    told: ToldLock,
-    allowed: Allowed,
-) -> Steps
+/// one. A call without a reply has the steps of one that is done, if they may change a lock.
+pub(crate) fn steps_of(asked: &Asked, allowed: Allowed) -> Steps
     ensures { allowed.wait_drops ≡ false → IsWhole result }
 {
-    if is_silenced(operation, reply, allowed) {
+    if is_silenced(asked, allowed) {
         return Steps::None;
     }
+    let (reply, told) = (asked.reply, asked.told);
     let is_done = reply.is_none_or(|reply| reply == Reply::Done);
-    match *operation {
+    match asked.operation {
         Operation::Wait { mode, span } if allowed.wait_drops => match reply {
             None | Some(Reply::Done) => Steps::Two(Act::Frees { span }, Act::Locks { mode, span }),
             Some(Reply::Interrupted) => Steps::One(Act::Frees { span }),
@@ -55,9 +59,9 @@ pub(crate) fn steps_of(
 }
 
 // Whether a rule lets the call say nothing.
-fn is_silenced(operation: &Operation, reply: Option<Reply>, allowed: Allowed) -> bool {
-    let is_denied = reply == Some(Reply::Again) || reply == Some(Reply::Blocked);
-    match *operation {
+fn is_silenced(asked: &Asked, allowed: Allowed) -> bool {
+    let is_denied = asked.reply == Some(Reply::Again) || asked.reply == Some(Reply::Blocked);
+    match asked.operation {
         Operation::Set { mode, .. } => {
             allowed.stale_read_denial && is_denied && mode == Mode::Read
         }

@@ -1,5 +1,5 @@
 -- A history as far as its lines were read.
-use Rattle.std.specs.Prelude.{◌≡◌, ℕ, ◌≤◌, ◌+◌, ◌++◌, max, false, List, flat_map, length, count_by, sum_by, All}
+use Rattle.std.specs.Prelude.{◌≡◌, ℕ, ◌≤◌, ◌+◌, ◌++◌, ⊤, max, false, List, flat_map, length, count_by, sum_by, All}
 use Rattle.texts.specs.rule.LineFeeds.{line_feed}
 use Rattle.texts.specs.rule.Reads.{IsWithin, Lacks}
 use Rattle.history_text.specs.declared.known_names.CallBody.{CallBody}
@@ -7,6 +7,8 @@ use Rattle.history_text.specs.declared.known_names.CallBody.TheVariants.{Exits, 
 use Rattle.history_text.specs.declared.known_names.KnownNames.{KnownNames}
 use Rattle.history_text.specs.declared.history_reader.HistoryReader.{HistoryReader}
 use Rattle.history_text.specs.declared.rule.Allowed.{Allowed}
+use Rattle.history_text.specs.declared.steps.Steps.{Steps}
+use Rattle.history_text.specs.declared.steps.Steps.TheVariants as steps
 use Rattle.history_text.specs.rule.Calls.{counted, is_call, with_feed}
 use Rattle.history_text.specs.rule.Files.{AreFilesOf, IsAlone, lines_in}
 use Rattle.history_text.specs.rule.Lives.{AreLives, AreOwners, Extends}
@@ -24,10 +26,16 @@ pub record Learns (line : ℕ) (old new : KnownNames) : Type 0 where
   pub extends : Extends old.owners.lives.items new.owners.lives.items
   pub lives : (lines : ℕ) → IsWithin 1 lines line → AreLives lines old.owners.lives.items → AreLives lines new.owners.lives.items
 
+-- a call was done in one step, or in none
+abbrev pub IsWhole : Steps → Type 0
+IsWhole steps.None = ⊤
+IsWhole (steps.One act) = ⊤
+IsWhole (steps.Two first second) = ⊥
+
 -- the file of a call is one of those that were known before, or one more
 abbrev pub NamesOf : CallBody → ℕ → ℕ → Type 0
 NamesOf Exits before after = after ≡ before
-NamesOf (Asks file operation reply told) before after = (file ≤ before) × (after ≡ max before (file + 1))
+NamesOf (Asks file asked) before after = (file ≤ before) × (after ≡ max before (file + 1))
 
 -- the reader has read that many lines, where these rules are allowed
 pub record IsRead (allowed : Allowed) (lines : ℕ) (reader : HistoryReader) : Type 0 where

@@ -2,7 +2,7 @@ use Rattle.std.proofs.Common.{ℕ, ◌+◌, ◌≤◌, List, refl, ap, sym, subs
 use Rattle.texts.specs.rule.Reads.{IsWithin}
 use Rattle.history_text.specs.declared.owners.Life.{Life}
 use Rattle.history_text.specs.rule.Files.{IsCallOf}
-use Rattle.history_text.specs.code.Steps.{IsWhole}
+use Rattle.history_text.specs.rule.Readings.{IsWhole}
 use Rattle.history_text.proofs.FileLaws.{files_extend}
 use Rattle.history_text.proofs.history_reader.HistoryReader.take_call.Goals as goal
 
