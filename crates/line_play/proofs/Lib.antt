@@ -1,4 +1,3 @@
 mod Additions
 mod Playings
-mod Talks
 mod Transcribed

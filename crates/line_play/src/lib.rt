@@ -2,8 +2,6 @@
 //! crate knows nothing of command lines, or of files on a disk.
 #![tactic(auto)]
 
-pub mod answering;
 mod answers;
 pub mod laws;
 pub mod played_lines;
-pub mod stop;

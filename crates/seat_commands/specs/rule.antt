@@ -1,7 +1,13 @@
-pub mod Asking
-pub mod Doings
-pub mod Keeping
+pub mod Changes
+pub mod ListFiles
+pub mod Registers
+pub mod SeatTalks
 pub mod Lines
+pub mod Table
+pub mod Asking
 pub mod Names
 pub mod Statuses
-pub mod Table
+pub mod Keeping
+pub mod Merging
+pub mod Ending
+pub mod Doings

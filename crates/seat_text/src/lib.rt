@@ -1,9 +1,13 @@
-//! Seats by lines: what they are told, and what they do, as texts.
+//! Seats by lines: what they are told, and what they do, as texts; talks with them, and their logs, read back. This crate knows
+//! nothing of how logs are merged, of files, or of threads.
 #![tactic(auto)]
 
-mod column;
-mod ledger;
-pub mod reading;
+pub mod block;
+pub mod clock;
+mod parts;
+pub mod read;
+pub mod reader;
 pub mod seat_line;
 pub mod speaker;
+pub mod talk;
 pub mod writing;

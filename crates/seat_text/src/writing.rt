@@ -1,22 +1,20 @@
-//! Writes the blocks of a seat.
+//! Writes blocks.
 //!
 //! Each function here that can fail errs with `AllocError`, where a request for memory was refused.
-ghost use Rattle.std.specs.Prelude.{◌≡◌, ◌++◌, [], List, ℕ, Ok, OnOk, codes, find, fold, string_bytes};
+ghost use Rattle.std.specs.Prelude.{◌≡◌, ◌++◌, ◌∷◌, [], List, ℕ, Ok, OnOk, find, fold, string_bytes};
 ghost use Rattle.messages.specs.rule.Messages.{same_call};
-ghost use Rattle.messages.specs.declared.version.Version.TheVariants.{Second};
 ghost use Rattle.journal_text.specs.rule.Journals.{reply_line};
-ghost use Rattle.journal_text.specs.rule.Texts.{event_text};
-ghost use Rattle.seat_text.specs.rule.Blocks.{actor_text, again_text, after_step, bad_line, block, cluster_text, first_line, first_block, refused_line, step_text, tag_line, tagged_line, to_line, to_lines, whose_text, written};
+ghost use Rattle.seat_text.specs.rule.Blocks.{actor_text, after_step, again_text, bad_line, block, clock_line, count_after, first_block, first_text, no_entries, refused_line, tag_line, tags_after, to_lines, without, written, step_text};
+ghost use Rattle.seat_text.specs.rule.Lists.{list_head, listed_text};
 
-use crate::ledger::{Ledger, TaggedCall};
+use crate::block::{Head, ListedChange};
 use journal_text::journal::push_end;
+use journal_text::operands::AnswerFields;
 use journal_text::writing::push_event;
-use lockscript::replies::push_reply;
-use message_text::names::push_call;
-use message_text::writing::push_message;
+use merges::logged::Interval;
+use message_text::writing::{push, push_message};
 use messages::actor::Actor;
-use messages::event::Event;
-use messages::message::Message;
+use messages::event::{Event, NodeInput};
 use messages::shape::Shape;
 use messages::shared_message::SharedMessage;
 use messages::version::Version;
@@ -24,53 +22,108 @@ use model::call::CallId;
 use model::policy::Policy;
 use model::reply::Reply;
 use seats::seat_step::SeatStep;
-use std::alloc::AllocError;
+use std::alloc::{AllocError, Global};
 use std::fmt::Write;
+use std::marker::Model;
 use texts::words::Named;
 
-// Adds who a message is for.
-fn push_actor(out: &mut String, actor: Actor) -> Result<(), AllocError>
-    ensures { OnOk result (string_bytes out.new ≡ string_bytes out.old ++ actor_text actor) }
-{
-    match actor {
-        Actor::Node(node) => write!(out, "node {node}"),
-        Actor::Server(file) => write!(out, "server {file}"),
+/// The last call of a process, which had this tag.
+#[derive(Clone, Copy, Debug, PartialEq, Eq)]
+pub struct TaggedCall {
+    pub pid: u16,
+    pub call: CallId,
+    pub tag: u64,
+}
+
+/// What a seat keeps of its blocks: the number of entries so far, and the tagged calls.
+#[derive(Drop)]
+pub(crate) struct Ledger {
+    count: usize,
+    tags: Vec<TaggedCall>,
+}
+
+impl Model for Ledger {
+    ghost use Rattle.seat_text.specs.rule.Blocks.{Ledger as Fields};
+
+    ghost Value = { Fields };
+
+    ghost view = { λ l. record { count = l.count; tags = l.tags.items } };
+}
+
+impl Ledger {
+    /// There were no entries.
+    pub(crate) fn new(alloc: Global) -> Ledger
+        ensures { result ≡ no_entries }
+    {
+        Ledger {
+            count: 0,
+            tags: Vec::new(alloc),
+        }
+    }
+
+    // Notes a step of a line with this tag.
+    fn note(&mut self, tag: Option<u64>, step: &SeatStep) -> Result<(), AllocError>
+        ensures { OnOk result (self.new ≡ after_step tag self.old step.now) }
+    {
+        self.count = count_after(self.count, &step.event);
+        note_call(&mut self.tags, tag, &step.event, step.outcome.call)
+    }
+
+    fn count(&self) -> usize
+        ensures { result ≡ self.now.count }
+    {
+        self.count
+    }
+
+    fn tags(&self) -> &[TaggedCall]
+        ensures { result.now ≡ self.now.tags }
+    {
+        self.tags.as_slice()
     }
 }
 
-// Adds the line of a message that is sent.
-fn push_to(out: &mut String, message: &Message) -> Result<(), AllocError>
-    ensures { OnOk result (string_bytes out.new ≡ string_bytes out.old ++ to_line message.now) }
+// The number of entries after a step at the event.
+fn count_after(count: usize, event: &Event) -> usize
+    ensures { result ≡ count_after count event.now }
 {
-    out.push_str("to ")?;
-    push_actor(out, message.addressee())?;
-    out.push_str(" ")?;
-    push_message(out, Version::Second, message)?;
-    out.push_str("\n")
-}
-
-// Adds the lines of the messages that are sent.
-fn push_sends(out: &mut String, messages: &[SharedMessage]) -> Result<(), AllocError>
-    ensures { OnOk result (string_bytes out.new ≡ string_bytes out.old ++ to_lines messages.now) }
-{
-    for message in messages {
-        push_to(out, message.get())?;
+    match event {
+        Event::Member(_) => count,
+        _ => count.saturating_add(1),
     }
-    Ok(())
 }
 
-// Adds the line of the answer, if there is one.
-fn push_answer(out: &mut String, answer: Option<(CallId, Reply)>) -> Result<(), AllocError>
-    ensures { OnOk result (string_bytes out.new ≡ string_bytes out.old ++ reply_line answer) }
+// Notes the call that the event names, of a line with this tag.
+fn note_call(
+    tags: &mut Vec<TaggedCall>,
+    tag: Option<u64>,
+    event: &Event,
+    call: Option<CallId>,
+) -> Result<(), AllocError>
+    ensures { OnOk result (tags.new.items ≡ tags_after tag tags.old.items event.now call) }
 {
-    let Some((call, reply)) = answer else {
+    let Event::AtNode(_, NodeInput::Call { pid, .. }) = event else {
         return Ok(());
     };
-    out.push_str("reply ")?;
-    push_call(out, &call)?;
-    out.push_str(" ")?;
-    push_reply(out, &reply)?;
-    out.push_str("\n")
+    let pid = *pid;
+    forget(tags, pid);
+    match (tag, call) {
+        (Some(tag), Some(call)) => add(tags, TaggedCall { pid, call, tag }),
+        _ => Ok(()),
+    }
+}
+
+// Forgets the call of the process.
+fn forget(tags: &mut Vec<TaggedCall>, pid: u16)
+    ensures { tags.new.items ≡ without pid tags.old.items }
+{
+    tags.retain(|tagged| tagged.pid != pid);
+}
+
+fn add(tags: &mut Vec<TaggedCall>, tagged: TaggedCall) -> Result<(), AllocError>
+    ensures { OnOk result (tags.new.items ≡ tags.old.items ++ tagged ∷ []) }
+{
+    tags.push(tagged)?;
+    Ok(())
 }
 
 // Whether both are names of the same call.
@@ -89,14 +142,39 @@ fn find(tags: &[TaggedCall], call: CallId) -> Option<TaggedCall>
         .copied()
 }
 
-// Adds the line of the tag of a call, if there is one.
-fn push_tagged(out: &mut String, tagged: Option<TaggedCall>) -> Result<(), AllocError>
-    ensures { OnOk result (string_bytes out.new ≡ string_bytes out.old ++ tagged_line tagged) }
+// Adds who a message is for, or whose seat it is.
+fn push_actor(out: &mut String, actor: Actor) -> Result<(), AllocError>
+    ensures { OnOk result (string_bytes out.new ≡ string_bytes out.old ++ actor_text actor) }
 {
-    match tagged {
-        Some(TaggedCall { tag, .. }) => writeln!(out, "tag {tag}"),
-        None => Ok(()),
+    match actor {
+        Actor::Node(node) => write!(out, "node {node}"),
+        Actor::Server(file) => write!(out, "server {file}"),
     }
+}
+
+// Adds the lines of the messages that are sent.
+fn push_sends(out: &mut String, messages: &[SharedMessage]) -> Result<(), AllocError>
+    ensures { OnOk result (string_bytes out.new ≡ string_bytes out.old ++ to_lines messages.now) }
+{
+    for message in messages {
+        out.push_str("to ")?;
+        push_actor(out, message.get().addressee())?;
+        out.push_str(" ")?;
+        push_message(out, Version::Second, message.get())?;
+        out.push_str("\n")?;
+    }
+    Ok(())
+}
+
+// Adds the line of the answer, if there is one.
+fn push_answer(out: &mut String, answer: Option<(CallId, Reply)>) -> Result<(), AllocError>
+    ensures { OnOk result (string_bytes out.new ≡ string_bytes out.old ++ reply_line answer) }
+{
+    let Some(answer) = answer else {
+        return Ok(());
+    };
+    push::<AnswerFields>(out, "reply ", &answer)?;
+    out.push_str("\n")
 }
 
 // Adds the line of the tag of the call that is answered, if it has one.
@@ -110,50 +188,23 @@ fn push_tag(
     let Some((call, _)) = answer else {
         return Ok(());
     };
-    push_tagged(out, find(tags, call))
-}
-
-// Adds the event of a step, and the end of its line.
-fn push_event_of(out: &mut String, step: &SeatStep) -> Result<(), AllocError>
-    ensures { OnOk result (string_bytes out.new ≡ string_bytes out.old ++ (event_text Second step.now.event step.now.incarnation step.now.outcome.call ++ codes "\n")) }
-{
-    push_event(
-        out,
-        Version::Second,
-        &step.event,
-        step.incarnation,
-        &step.outcome.call,
-    )?;
-    out.push_str("\n")
-}
-
-// Adds the first line of a step.
-fn push_first(out: &mut String, count: usize, step: &SeatStep) -> Result<(), AllocError>
-    ensures { OnOk result (string_bytes out.new ≡ string_bytes out.old ++ first_line count step.now.event step.now.incarnation step.now.outcome.call) }
-{
-    match &step.event {
-        Event::Member(_) => {
-            out.push_str("member ")?;
-            push_event_of(out, step)
-        }
-        _ => {
-            write!(out, "entry {count} ")?;
-            push_event_of(out, step)
-        }
+    match find(tags, call) {
+        Some(TaggedCall { tag, .. }) => writeln!(out, "tag {tag}"),
+        None => Ok(()),
     }
 }
 
-// Adds the lines of a step, with the ledger after it.
-fn push_step(out: &mut String, ledger: &Ledger, step: &SeatStep) -> Result<(), AllocError>
-    ensures { OnOk result (string_bytes out.new ≡ string_bytes out.old ++ step_text ledger.now step.now) }
+// Adds what the first line of a step begins with.
+fn push_first(out: &mut String, count: usize, event: &Event) -> Result<(), AllocError>
+    ensures { OnOk result (string_bytes out.new ≡ string_bytes out.old ++ first_text count event.now) }
 {
-    push_first(out, ledger.count(), step)?;
-    push_answer(out, step.outcome.reply)?;
-    push_tag(out, ledger.tags(), step.outcome.reply)?;
-    push_sends(out, step.outcome.sends.as_slice())
+    match event {
+        Event::Member(_) => out.push_str("member "),
+        _ => write!(out, "entry {count} "),
+    }
 }
 
-// Adds a step, and notes it.
+// Notes a step, and adds its lines.
 fn put_step(
     out: &mut String,
     tag: Option<u64>,
@@ -164,22 +215,19 @@ fn put_step(
     ensures text { OnOk result (string_bytes out.new ≡ string_bytes out.old ++ step_text (after_step tag ledger.old step.now) step.now) }
 {
     ledger.note(tag, step)?;
-    push_step(out, ledger, step)
-}
-
-// Adds the steps.
-fn put_steps(
-    out: &mut String,
-    tag: Option<u64>,
-    ledger: &mut Ledger,
-    steps: &[SeatStep],
-) -> Result<(), AllocError>
-    ensures { OnOk result ((text : List ℕ) × (fold (written tag) (ledger.old, []) steps.now ≡ (ledger.new, text)) × (string_bytes out.new ≡ string_bytes out.old ++ text)) }
-{
-    for step in steps {
-        put_step(out, tag, ledger, step)?;
-    }
-    Ok(())
+    let outcome = &step.outcome;
+    push_first(out, ledger.count(), &step.event)?;
+    push_event(
+        out,
+        Version::Second,
+        &step.event,
+        step.incarnation,
+        &outcome.call,
+    )?;
+    out.push_str("\n")?;
+    push_answer(out, outcome.reply)?;
+    push_tag(out, ledger.tags(), outcome.reply)?;
+    push_sends(out, outcome.sends.as_slice())
 }
 
 /// Adds the block of these steps, of a line with this tag.
@@ -195,28 +243,42 @@ pub(crate) fn push_block(
     push_end(out, ledger.count())
 }
 
+fn put_steps(
+    out: &mut String,
+    tag: Option<u64>,
+    ledger: &mut Ledger,
+    steps: &[SeatStep],
+) -> Result<(), AllocError>
+    ensures { OnOk result ((text : List ℕ) × (fold (written tag) (ledger.old, []) steps.now ≡ (ledger.new, text)) × (string_bytes out.new ≡ string_bytes out.old ++ text)) }
+{
+    for step in steps {
+        put_step(out, tag, ledger, step)?;
+    }
+    Ok(())
+}
+
 /// Adds the block of a line that is refused.
-pub(crate) fn push_refused(out: &mut String, code: u16) -> Result<(), AllocError>
+pub fn push_refused(out: &mut String, code: u16) -> Result<(), AllocError>
     ensures { OnOk result (string_bytes out.new ≡ string_bytes out.old ++ refused_line code) }
 {
     writeln!(out, "refused {code}")
 }
 
 /// Adds the block of a line that is none.
-pub(crate) fn push_bad(out: &mut String, column: usize) -> Result<(), AllocError>
+pub fn push_bad(out: &mut String, column: usize) -> Result<(), AllocError>
     ensures { OnOk result (string_bytes out.new ≡ string_bytes out.old ++ bad_line column) }
 {
     writeln!(out, "refused 9 {column}")
 }
 
-// Adds the cluster of a seat.
-fn push_cluster(out: &mut String, shape: &Shape) -> Result<(), AllocError>
-    ensures { OnOk result (string_bytes out.new ≡ string_bytes out.old ++ cluster_text shape.now) }
+/// Adds the line `at`, where a clock was read.
+pub fn push_clock(out: &mut String, clock: Option<Interval>) -> Result<(), AllocError>
+    ensures { OnOk result (string_bytes out.new ≡ string_bytes out.old ++ clock_line clock) }
 {
-    let nodes = shape.nodes();
-    let files = shape.files();
-    let policy = Policy::word(shape.policy());
-    write!(out, "seat 2 nodes {nodes} files {files} policy {policy} ")
+    match clock {
+        Some(Interval { began, ended }) => writeln!(out, "at {began} {ended}"),
+        None => Ok(()),
+    }
 }
 
 // What the first line of a seat ends with.
@@ -226,25 +288,38 @@ fn again_text(again: bool) -> &'static str
     if again { " again" } else { "" }
 }
 
-// Adds whose seat it is.
-fn push_whose(out: &mut String, actor: Actor, again: bool) -> Result<(), AllocError>
-    ensures { OnOk result (string_bytes out.new ≡ string_bytes out.old ++ whose_text actor again) }
+/// Adds the block with which a seat begins.
+pub fn push_begin(out: &mut String, head: &Head) -> Result<(), AllocError>
+    ensures { OnOk result (string_bytes out.new ≡ string_bytes out.old ++ first_block head.now) }
 {
-    push_actor(out, actor)?;
-    out.push_str(again_text(again))?;
-    out.push_str("\n")
+    let nodes = head.shape.nodes();
+    let files = head.shape.files();
+    let policy = Policy::word(head.shape.policy());
+    write!(out, "seat 2 nodes {nodes} files {files} policy {policy} ")?;
+    push_actor(out, head.actor)?;
+    out.push_str(again_text(head.again))?;
+    out.push_str("\n")?;
+    push_end(out, 0)
 }
 
-/// Adds the block with which the seat of the actor begins; `again`: it works only once its actor begins again.
-pub fn push_begin(
-    out: &mut String,
-    shape: &Shape,
-    actor: Actor,
-    again: bool,
-) -> Result<(), AllocError>
-    ensures { OnOk result (string_bytes out.new ≡ string_bytes out.old ++ first_block shape.now actor again) }
+/// Adds the block with which the list of declarations and starts begins.
+pub fn push_list_head(out: &mut String, shape: &Shape) -> Result<(), AllocError>
+    ensures { OnOk result (string_bytes out.new ≡ string_bytes out.old ++ list_head shape.now.nodes shape.now.files) }
 {
-    push_cluster(out, shape)?;
-    push_whose(out, actor, again)?;
+    let nodes = shape.nodes();
+    let files = shape.files();
+    writeln!(out, "members 2 nodes {nodes} files {files}")?;
     push_end(out, 0)
+}
+
+/// Adds the block of a declaration or a start, which is the one of this number in the list.
+pub fn push_listed(out: &mut String, number: usize, listed: &ListedChange) -> Result<(), AllocError>
+    ensures { OnOk result (string_bytes out.new ≡ string_bytes out.old ++ listed_text number listed.now) }
+{
+    push_clock(out, listed.clock)?;
+    out.push_str("member ")?;
+    let event = Event::Member(listed.event);
+    push_event(out, Version::Second, &event, listed.incarnation, &None)?;
+    out.push_str("\n")?;
+    push_end(out, number)
 }

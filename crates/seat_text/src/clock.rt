@@ -1,0 +1,81 @@
+//! The readings of a clock with which blocks begin.
+ghost use Rattle.std.specs.Prelude.{◌≡◌, ◌≤◌};
+ghost use Rattle.seat_text.specs.rule.Clocks.{IsMoment, both, greatest_moment};
+
+use merges::logged::Interval;
+use std::marker::Model;
+use std::time::{Clock, Duration};
+
+/// The greatest moment, in microseconds since 1970.
+pub const GREATEST_MOMENT: u64 = 9_223_372_036_854_775_807;
+
+/// The clock of the system, which is held where it would go back.
+#[derive(Drop)]
+pub struct Stopwatch<'a, C> {
+    clock: &'a C,
+    last: u64,
+}
+
+impl<'a, C> Model for Stopwatch<'a, C> {
+    ghost use Rattle.std.specs.Prelude.{◌≤◌, ℕ};
+    ghost use Rattle.seat_text.specs.rule.Clocks.{greatest_moment};
+
+    ghost Value = { ℕ };
+
+    ghost view = { λ w. w.last };
+
+    ghost invariant = { λ w. w.last ≤ greatest_moment };
+}
+
+impl<'a, C: Clock> Stopwatch<'a, C> {
+    /// The clock, which was last read at this moment.
+    pub fn new(clock: &'a C, last: u64) -> Stopwatch<'a, C>
+        requires { last ≤ greatest_moment }
+        ensures { result ≡ last }
+    {
+        Stopwatch { clock, last }
+    }
+
+    // The moment now, in microseconds since 1970.
+    fn look(&mut self) -> u64
+        ensures rises { self.old ≤ result }
+        ensures within { result ≤ greatest_moment }
+        ensures last { self.new ≡ result }
+    {
+        let now = moment_of(self.clock.since_1970().unwrap_or(Duration::ZERO));
+        if self.last < now {
+            self.last = now;
+        }
+        self.last
+    }
+}
+
+// The moment so long since 1970, or the greatest one.
+fn moment_of(since: Duration) -> u64
+    ensures { result ≤ greatest_moment }
+{
+    match u64::try_from(since.as_micros()) {
+        Ok(micros) if micros <= GREATEST_MOMENT => micros,
+        _ => GREATEST_MOMENT,
+    }
+}
+
+/// The moment now, where a clock is read.
+pub fn moment<C: Clock>(watch: &mut Option<Stopwatch<'_, C>>) -> Option<u64>
+    ensures { IsMoment watch.old result watch.new }
+{
+    match watch {
+        Some(watch) => Some(watch.look()),
+        None => None,
+    }
+}
+
+/// Two readings of a clock, if it was read.
+pub fn both(began: Option<u64>, ended: Option<u64>) -> Option<Interval>
+    ensures { result ≡ both began ended }
+{
+    match (began, ended) {
+        (Some(began), Some(ended)) => Some(Interval { began, ended }),
+        _ => None,
+    }
+}
