@@ -44,30 +44,30 @@ pub(crate) fn seated<'a, R: Files + Clock, I: Read + Drop, S: Store, O: Write>(
     let mut reader = buffered(alloc, input)?;
     match line.log {
         Some(path) => {
-            let log = open_added(rt, store, path)?;
-            Ok(have_seat(rt, alloc, line, &mut reader, log, out)?)
+            let mut log = open_added(rt, store, path)?;
+            Ok(have_seat(rt, alloc, line, &mut reader, &mut log, out)?)
         }
-        None => Ok(have_seat(rt, alloc, line, &mut reader, io::sink(), out)?),
+        None => {
+            let mut log = io::sink();
+            Ok(have_seat(rt, alloc, line, &mut reader, &mut log, out)?)
+        }
     }
 }
 
-/// Writes the first block of the seat of the line's actor, and then the block of each line that is read, each first to the log and
-/// then out. Tells why that ended.
-///
-/// # Errors
-/// `AllocError` where a request for memory was refused before the first block was written: nothing was read and written.
-fn have_seat<C: Clock, R: Read, L: Write + Drop, W: Write>(
+// Writes the first block of the seat of the line's actor, and then the block of each line that is read, each first to the log and
+// then out. Tells why that ended. It errs where a request for memory was refused before that: nothing was read and written.
+fn have_seat<C: Clock, R: Read, L: Write, W: Write>(
     clock: &C,
     alloc: Global,
     line: &ActorLine<'_>,
     reader: &mut R,
-    log: L,
+    log: &mut L,
     out: &mut W,
 ) -> Result<TalkEnd<AllocError>, AllocError>
     requires { IsIn line.now.head.shape line.now.head.actor }
-    ensures talks { IfOk result (λ end. (after : L) × TalksFor line.now line.now.head.actor end (R.remaining reader.old) (R.remaining reader.new)
-        (L.contents log) (L.contents after) (W.contents out.old) (W.contents out.new)) }
-    ensures untouched { OnErr result (out.new ≡ out.old) }
+    ensures talks { IfOk result (λ end. TalksFor line.now line.now.head.actor end (R.remaining reader.old) (R.remaining reader.new)
+        (L.contents log.old) (L.contents log.new) (W.contents out.old) (W.contents out.new)) }
+    ensures untouched { OnErr result ((reader.new ≡ reader.old) × (log.new ≡ log.old) × (out.new ≡ out.old)) }
 {
     match line.head.actor {
         Actor::Node(node) => {
@@ -104,18 +104,18 @@ fn server_seat(alloc: Global, line: &ActorLine<'_>, file: u16) -> Result<ServerS
 }
 
 // Answers for the seat.
-fn speak<C: Clock, S: Seated + Drop, R: Read, L: Write + Drop, W: Write>(
+fn speak<C: Clock, S: Seated + Drop, R: Read, L: Write, W: Write>(
     clock: &C,
     alloc: Global,
     line: &ActorLine<'_>,
     seat: S,
     reader: &mut R,
-    log: L,
+    log: &mut L,
     out: &mut W,
 ) -> Result<TalkEnd<AllocError>, AllocError>
-    ensures talks { IfOk result (λ end. (after : L) × SeatTalks S.does line.now.clock (begin_of line.now) seat end (R.remaining reader.old) (R.remaining reader.new)
-        (L.contents log) (L.contents after) (W.contents out.old) (W.contents out.new)) }
-    ensures untouched { OnErr result (out.new ≡ out.old) }
+    ensures talks { IfOk result (λ end. SeatTalks S.does line.now.clock (begin_of line.now) seat end (R.remaining reader.old) (R.remaining reader.new)
+        (L.contents log.old) (L.contents log.new) (W.contents out.old) (W.contents out.new)) }
+    ensures untouched { OnErr result ((reader.new ≡ reader.old) × (log.new ≡ log.old) × (out.new ≡ out.old)) }
 {
     let mut watch = watch_of(clock, line.clock, 0);
     let began = moment(&mut watch);
@@ -126,8 +126,7 @@ fn speak<C: Clock, S: Seated + Drop, R: Read, L: Write + Drop, W: Write>(
     push_clock(&mut begin, both(began, ended))?;
     begin.push_str(first.as_str())?;
     let mut who = Speaker::new(alloc, seat, watch);
-    let mut log = log;
-    Ok(hold(alloc, begin.as_str(), &mut who, reader, &mut log, out))
+    Ok(hold(alloc, begin.as_str(), &mut who, reader, log, out))
 }
 
 /// The clock, which was last read at this moment, where it is to be read.

@@ -4,7 +4,7 @@
 ghost use Rattle.std.specs.Prelude.{◌≡◌, ◌++◌, ◌∷◌, [], List, ℕ, Ok, OnOk, find, fold, string_bytes};
 ghost use Rattle.messages.specs.rule.Messages.{same_call};
 ghost use Rattle.journal_text.specs.rule.Journals.{reply_line};
-ghost use Rattle.seat_text.specs.rule.Blocks.{actor_text, after_step, again_text, bad_line, block, clock_line, count_after, first_block, first_text, no_entries, refused_line, tag_line, tags_after, to_lines, without, written, step_text};
+ghost use Rattle.seat_text.specs.rule.Blocks.{actor_text, after_step, again_text, bad_line, block, clock_line, cluster_text, count_after, first_block, first_text, no_entries, refused_line, tag_line, tagged_line, tags_after, to_lines, whose_text, without, written, step_text};
 ghost use Rattle.seat_text.specs.rule.Lists.{list_head, listed_text};
 
 use crate::block::{Head, ListedChange};
@@ -177,6 +177,16 @@ fn push_answer(out: &mut String, answer: Option<(CallId, Reply)>) -> Result<(), 
     out.push_str("\n")
 }
 
+// Adds the line of the tag of a call, if there is one.
+fn push_tagged(out: &mut String, tagged: Option<TaggedCall>) -> Result<(), AllocError>
+    ensures { OnOk result (string_bytes out.new ≡ string_bytes out.old ++ tagged_line tagged) }
+{
+    match tagged {
+        Some(TaggedCall { tag, .. }) => writeln!(out, "tag {tag}"),
+        None => Ok(()),
+    }
+}
+
 // Adds the line of the tag of the call that is answered, if it has one.
 fn push_tag(
     out: &mut String,
@@ -185,11 +195,8 @@ fn push_tag(
 ) -> Result<(), AllocError>
     ensures { OnOk result (string_bytes out.new ≡ string_bytes out.old ++ tag_line tags.now answer) }
 {
-    let Some((call, _)) = answer else {
-        return Ok(());
-    };
-    match find(tags, call) {
-        Some(TaggedCall { tag, .. }) => writeln!(out, "tag {tag}"),
+    match answer {
+        Some((call, _)) => push_tagged(out, find(tags, call)),
         None => Ok(()),
     }
 }
@@ -288,17 +295,31 @@ fn again_text(again: bool) -> &'static str
     if again { " again" } else { "" }
 }
 
+// Adds the cluster of a seat.
+fn push_cluster(out: &mut String, shape: &Shape) -> Result<(), AllocError>
+    ensures { OnOk result (string_bytes out.new ≡ string_bytes out.old ++ cluster_text shape.now) }
+{
+    let nodes = shape.nodes();
+    let files = shape.files();
+    let policy = Policy::word(shape.policy());
+    write!(out, "seat 2 nodes {nodes} files {files} policy {policy} ")
+}
+
+// Adds whose seat it is.
+fn push_whose(out: &mut String, actor: Actor, again: bool) -> Result<(), AllocError>
+    ensures { OnOk result (string_bytes out.new ≡ string_bytes out.old ++ whose_text actor again) }
+{
+    push_actor(out, actor)?;
+    out.push_str(again_text(again))?;
+    out.push_str("\n")
+}
+
 /// Adds the block with which a seat begins.
 pub fn push_begin(out: &mut String, head: &Head) -> Result<(), AllocError>
     ensures { OnOk result (string_bytes out.new ≡ string_bytes out.old ++ first_block head.now) }
 {
-    let nodes = head.shape.nodes();
-    let files = head.shape.files();
-    let policy = Policy::word(head.shape.policy());
-    write!(out, "seat 2 nodes {nodes} files {files} policy {policy} ")?;
-    push_actor(out, head.actor)?;
-    out.push_str(again_text(head.again))?;
-    out.push_str("\n")?;
+    push_cluster(out, &head.shape)?;
+    push_whose(out, head.actor, head.again)?;
     push_end(out, 0)
 }
 
