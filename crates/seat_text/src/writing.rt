@@ -5,7 +5,7 @@ ghost use Rattle.std.specs.Prelude.{◌≡◌, ◌++◌, ◌∷◌, [], List, �
 ghost use Rattle.messages.specs.rule.Messages.{same_call};
 ghost use Rattle.journal_text.specs.rule.Journals.{reply_line};
 ghost use Rattle.seat_text.specs.rule.Blocks.{actor_text, after_step, again_text, bad_line, block, clock_line, cluster_text, count_after, first_block, first_text, no_entries, refused_line, tag_line, tagged_line, tags_after, to_lines, whose_text, without, written, step_text};
-ghost use Rattle.seat_text.specs.rule.Lists.{list_head, listed_text};
+ghost use Rattle.seat_text.specs.rule.Lists.{list_head, listed_text, size_line};
 
 use crate::block::{Head, ListedChange};
 use journal_text::journal::push_end;
@@ -327,10 +327,17 @@ pub fn push_begin(out: &mut String, head: &Head) -> Result<(), AllocError>
 pub fn push_list_head(out: &mut String, shape: &Shape) -> Result<(), AllocError>
     ensures { OnOk result (string_bytes out.new ≡ string_bytes out.old ++ list_head shape.now.nodes shape.now.files) }
 {
+    push_size(out, shape)?;
+    push_end(out, 0)
+}
+
+// Adds the line of the size of a list's cluster.
+fn push_size(out: &mut String, shape: &Shape) -> Result<(), AllocError>
+    ensures { OnOk result (string_bytes out.new ≡ string_bytes out.old ++ size_line shape.now.nodes shape.now.files) }
+{
     let nodes = shape.nodes();
     let files = shape.files();
-    writeln!(out, "members 2 nodes {nodes} files {files}")?;
-    push_end(out, 0)
+    writeln!(out, "members 2 nodes {nodes} files {files}")
 }
 
 /// Adds the block of a declaration or a start, which is the one of this number in the list.

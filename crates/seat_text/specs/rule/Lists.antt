@@ -12,9 +12,13 @@ use Rattle.seat_text.specs.rule.Readings.{interval_of}
 use Rattle.seat_text.specs.rule.Talks.{IsFront}
 use Rattle.seat_text.specs.rule.Torn.{IsTorn}
 
+-- the line of the size of a list's cluster
+abbrev pub size_line : ℕ → ℕ → List ℕ
+size_line nodes files = codes "members 2 nodes " ++ decimal nodes ++ codes " files " ++ decimal files ++ codes "\n"
+
 -- the block with which a list begins
 abbrev pub list_head : ℕ → ℕ → List ℕ
-list_head nodes files = codes "members 2 nodes " ++ decimal nodes ++ codes " files " ++ decimal files ++ codes "\n" ++ (end_text 0 ++ codes "\n")
+list_head nodes files = size_line nodes files ++ (end_text 0 ++ codes "\n")
 
 -- the block of a declaration or a start, which is the one of this number
 abbrev pub listed_text : ℕ → ListedChange → List ℕ
