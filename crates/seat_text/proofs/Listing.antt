@@ -1,9 +1,8 @@
 -- The declarations and starts of a list that were read.
-use Rattle.std.proofs.Common.{codes, inl, inr, Option, ◌≡◌, ℕ, ◌+◌, List, [], ◌∷◌, ◌++◌, length, map, refl, sym, ap, subst, ◌∙◌, append-nil, append_assoc, arith}
+use Rattle.std.proofs.Common.{codes, inl, inr, Option, ◌≡◌, ℕ, ◌+◌, List, [], ◌∷◌, ◌++◌, length, refl, sym, ap, ◌∙◌, append-nil, append_assoc, arith}
 use Rattle.std.proofs.lemmas.List.{length-map, map-append}
 use Rattle.merges.specs.declared.logged.LoggedChange.{LoggedChange}
 use Rattle.merges.specs.declared.logged.Interval.{Interval}
-use Rattle.messages.specs.declared.event.MemberEvent.{MemberEvent}
 use Rattle.journal_text.specs.rule.Journals.{end_text}
 use Rattle.journal_text.specs.rule.Texts.{member_text}
 use Rattle.seat_text.specs.declared.block.ListedChange.{ListedChange}

@@ -1,5 +1,5 @@
 -- The blocks that were passed over.
-use Rattle.std.proofs.Common.{◌≡◌, ℕ, ◌+◌, All, Option, List, [], ◌∷◌, ◌++◌, length, drop, refl, sym, ap, subst, ◌∙◌, append-nil, append_assoc, arith, length-append}
+use Rattle.std.proofs.Common.{◌≡◌, ℕ, ◌+◌, All, Option, List, [], ◌∷◌, ◌++◌, length, refl, sym, ap, subst, ◌∙◌, append-nil, append_assoc, arith, length-append}
 use Rattle.std.proofs.Math.Seq.{drop-append_seam}
 use Rattle.seat_text.specs.declared.block.Block.{Block}
 use Rattle.messages.specs.declared.actor.Actor.{Actor}

@@ -1,9 +1,8 @@
 -- What is said to lines.
-use Rattle.std.proofs.Common.{◌≡◌, ◌++◌, ◌∙◌, ℕ, List, Option, Some, None, ap, arith, inr, refl, sym}
-use Rattle.merges.specs.declared.logged.Interval.{Interval}
-use Rattle.seat_text.specs.rule.Blocks.{Ledger, bad_line, clock_line}
+use Rattle.std.proofs.Common.{◌≡◌, ◌++◌, ℕ, List, Option, Some, None, ap, arith, inr, refl, sym}
+use Rattle.seat_text.specs.rule.Blocks.{Ledger, bad_line}
 use Rattle.seat_text.specs.rule.Clocks.{IsMoment, MayRead, both}
-use Rattle.seat_text.specs.rule.Speaking.{Doing, IsBad, Says, SaysInside, Speaking}
+use Rattle.seat_text.specs.rule.Speaking.{Doing, IsBad, SaysInside}
 
 -- where the column of a line that is none was written, that is what is said to it
 pub refuses : {S : Type 0} (does : Doing S) (a : S) (ledger : Ledger) (line : List ℕ) (column : ℕ) (old new : List ℕ) → IsBad line column → new ≡ old ++ bad_line column

@@ -1,11 +1,11 @@
 -- Looking for the last line that ends a block.
-use Rattle.std.proofs.Common.{◌≡◌, ℕ, List, [], ◌∷◌, ◌++◌, All, inl, inr, refl, sym, ap, subst, ◌∙◌, append_assoc, flat_map}
+use Rattle.std.proofs.Common.{◌≡◌, ℕ, List, [], ◌∷◌, ◌++◌, All, inl, inr, refl, sym, subst, append_assoc, flat_map}
 use Rattle.std.specs.Prelude.{◌⊎◌}
 use Rattle.std.proofs.lemmas.List.Elements.{All-nil, All-push}
 use Rattle.texts.specs.rule.FirstBadLine.{Passes}
 use Rattle.texts.specs.rule.LineFeeds.{line_feed, line_feeds, BeginsWithLine}
 use Rattle.journal_text.proofs.Begun.{passes-line, passes-none}
-use Rattle.seat_text.specs.rule.Torn.{EndsNoBlock, EndsTorn, IsTorn}
+use Rattle.seat_text.specs.rule.Torn.{EndsNoBlock, EndsTorn}
 
 -- the text is `whole`, and lines that end no block, and the rest; the last line of `whole` ends one
 pub record Tears (text torn rest : List ℕ) : Type 0 where

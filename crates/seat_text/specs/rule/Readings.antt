@@ -1,5 +1,5 @@
 -- What a log says: the entries of its actor in each of its incarnations, and the declarations and starts that it was told of.
-use Rattle.std.specs.Prelude.{◌≡◌, ℕ, ◌+◌, ◌==◌, Bool, if◌then◌else◌, List, [], ◌∷◌, ◌++◌, All, length, map, Option, Some, None}
+use Rattle.std.specs.Prelude.{◌≡◌, ℕ, ◌==◌, Bool, if◌then◌else◌, List, [], ◌∷◌, ◌++◌, All, map, Option, Some, None}
 use Rattle.messages.specs.declared.actor.Actor.{Actor}
 use Rattle.messages.specs.declared.actor.Actor.TheVariants.{Node, Server}
 use Rattle.messages.specs.declared.event.MemberEvent.{MemberEvent}
@@ -12,7 +12,7 @@ use Rattle.seat_text.specs.declared.block.Block.{Block}
 use Rattle.seat_text.specs.declared.block.LogChange.{LogChange}
 use Rattle.seat_text.specs.declared.block.LogStep.{LogStep}
 use Rattle.seat_text.specs.declared.block.Said.{Said}
-use Rattle.seat_text.specs.declared.block.Said.TheVariants.{Refused, NoLine, Did}
+use Rattle.seat_text.specs.declared.block.Said.TheVariants.{Did}
 use Rattle.seat_text.specs.declared.block.Head.{Head}
 use Rattle.seat_text.specs.rule.Logs.{log_text, steps_of}
 use Rattle.seat_text.specs.rule.Torn.{IsTorn}

@@ -1,4 +1,4 @@
-use Rattle.seat_text.proofs.Tearing.{tears_more, tears_none, torn_at}
+use Rattle.seat_text.proofs.Tearing.{tears_more, tears_none}
 use Rattle.seat_text.proofs.read.torn_end.Goals as goal
 
 pub loop-init : goal.loop-init

@@ -1,4 +1,4 @@
-use Rattle.std.proofs.Common.{◌≡◌, ◌+◌, ◌++◌, List, [], ◌∷◌, length, sym, ap, ◌∙◌, arith, length-append}
+use Rattle.std.proofs.Common.{◌+◌, ◌++◌, List, [], ◌∷◌, length, sym, ap, ◌∙◌, arith, length-append}
 use Rattle.seat_text.specs.declared.block.LogStep.{LogStep}
 use Rattle.seat_text.specs.rule.Logs.{steps_text}
 use Rattle.seat_text.proofs.Lines.{steps_more}
