@@ -38,11 +38,6 @@ impl Findings<'_> {
         ""
     }
 
-    /// The name of an owner, or `?`.
-    pub(crate) fn owner_name(&self, owner: &Owner) -> &str {
-        self.history.name_of(owner).unwrap_or("?")
-    }
-
     /// The words of the rules, in the order in which they are listed, each with whether it is allowed.
     pub(crate) fn rules(&self) -> [(bool, &'static str); 5] {
         let allowed = self.judging.allowed;
@@ -54,6 +49,11 @@ impl Findings<'_> {
             (allowed.lost_at, "lost-at"),
         ]
     }
+}
+
+/// The name of an owner, or `?`.
+pub(crate) fn owner_name<'a>(history: &'a WrittenHistory, owner: &Owner) -> &'a str {
+    history.name_of(owner).unwrap_or("?")
 }
 
 /// The name of the file with this index, or `?`.

@@ -1,6 +1,6 @@
 //! The judgement of a history as JSON. A function here that gives a `Result` answers `AllocError` where a request for
 //! memory was refused.
-use crate::findings::{Findings, Found, file_name, length_of};
+use crate::findings::{Findings, Found, file_name, length_of, owner_name};
 use crate::got_locks::got_by;
 use crate::judged::{Judged, Misfit};
 use crate::orders::names_of;
@@ -135,7 +135,7 @@ fn push_lock(out: &mut String, all: &Findings<'_>, lock: &LockInfo) -> Result<()
     push_text(out, "mode", lock.mode.word())?;
     push_number(out, "start", lock.span.lo)?;
     push_number(out, "len", length_of(lock.span))?;
-    push_text(out, "owner", all.owner_name(&lock.owner))?;
+    push_text(out, "owner", owner_name(all.history, &lock.owner))?;
     out.push_str("}")
 }
 

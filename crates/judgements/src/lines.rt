@@ -1,6 +1,6 @@
 //! The judgement of a history in lines. A function here that gives a `Result` answers `AllocError` where a request
 //! for memory was refused.
-use crate::findings::{Findings, Found, file_name, length_of};
+use crate::findings::{Findings, Found, file_name, length_of, owner_name};
 use crate::got_locks::got_by;
 use crate::judged::{Judged, Misfit};
 use crate::judging::JudgementOutcome;
@@ -150,7 +150,7 @@ fn push_lock(
     front: &str,
     lock: &LockInfo,
 ) -> Result<(), AllocError> {
-    let (mode, owner) = (lock.mode.word(), all.owner_name(&lock.owner));
+    let (mode, owner) = (lock.mode.word(), owner_name(all.history, &lock.owner));
     let (start, len) = (lock.span.lo, length_of(lock.span));
     writeln!(out, "  {front}{mode} {start} {len} {owner}")
 }
