@@ -1,0 +1,98 @@
+#define _GNU_SOURCE
+#include "base.h"
+#include <stdarg.h>
+#include <stdio.h>
+#include <stdlib.h>
+#include <string.h>
+#include <time.h>
+#include <unistd.h>
+
+struct settings settings = {
+    .nodes = 3, .files = MOST_FILES, .lease_ms = 4000, .margin_ms = 400, .beat_ms = 100, .grace_ms = 50, .threads = 4,
+    .fences = true, .forgets = true, .policy = "wide", .cluster = "nuvatsimo",
+};
+void (*before_death)(void);
+
+void *room_for(size_t count, size_t size) {
+    void *room = calloc(count, size);
+    if (!room)
+        die("no memory");
+    return room;
+}
+
+void add(struct buffer *buffer, const void *bytes, size_t length) {
+    if (buffer->length + length > buffer->room) {
+        buffer->room = (buffer->length + length) * 2 + 4096;
+        buffer->bytes = realloc(buffer->bytes, buffer->room);
+        if (!buffer->bytes)
+            die("no memory");
+    }
+    if (length)
+        memcpy(buffer->bytes + buffer->length, bytes, length);
+    buffer->length += length;
+}
+
+void add_text(struct buffer *buffer, const char *format, ...) {
+    char *text;
+    va_list words;
+    va_start(words, format);
+    int length = vasprintf(&text, format, words);
+    va_end(words);
+    if (length < 0)
+        die("no memory");
+    add(buffer, text, length);
+    free(text);
+}
+
+void take_off(struct buffer *buffer, size_t length) {
+    if (length && length < buffer->length)
+        memmove(buffer->bytes, buffer->bytes + length, buffer->length - length);
+    buffer->length -= length;
+}
+
+void drop_buffer(struct buffer *buffer) {
+    free(buffer->bytes);
+    *buffer = (struct buffer){0};
+}
+
+char *next_line(struct buffer *buffer, size_t *at, size_t *length) {
+    if (*at >= buffer->length)
+        return NULL;
+    char *line = buffer->bytes + *at, *end = memchr(line, '\n', buffer->length - *at);
+    if (!end)
+        return NULL;
+    *end = 0;
+    *length = end - line;
+    *at += *length + 1;
+    return line;
+}
+
+int64_t now(void) {
+    struct timespec time;
+    clock_gettime(CLOCK_BOOTTIME, &time);
+    return time.tv_sec * INT64_C(1000000000) + time.tv_nsec;
+}
+
+static void say_words(const char *format, va_list words) {
+    char text[1024];
+    vsnprintf(text, sizeof text, format, words);
+    int64_t time = now();
+    fprintf(stderr, "node %d at %lld.%03lld: %s\n", settings.me, (long long)(time / 1000 / MS), (long long)(time / MS % 1000), text);
+}
+
+void say(const char *format, ...) {
+    va_list words;
+    va_start(words, format);
+    say_words(format, words);
+    va_end(words);
+}
+
+void die(const char *format, ...) {
+    va_list words;
+    va_start(words, format);
+    say_words(format, words);
+    va_end(words);
+    if (before_death)
+        before_death();
+    _exit(3);
+}

@@ -1,0 +1,172 @@
+// One node of a cluster that programs mount.
+#define _GNU_SOURCE
+#include "cluster.h"
+#include "control.h"
+#include "copy.h"
+#include "fs.h"
+#include "loop.h"
+#include "seat.h"
+#include "view.h"
+#include <fcntl.h>
+#include <getopt.h>
+#include <signal.h>
+#include <stdio.h>
+#include <stdlib.h>
+#include <string.h>
+#include <sys/epoll.h>
+#include <sys/file.h>
+#include <sys/signalfd.h>
+#include <sys/timerfd.h>
+#include <unistd.h>
+
+static const char usage[] =
+    "usage: nuvnode --node N --backing FOLDER --folder FOLDER --program LOCKREPLAY (--corosync | --tcp ADDRESS:PORT --key FILE) [OPTION].. MOUNTPOINT\n"
+    "       nuvnode say FOLDER 'status' | 'declare N'\n"
+    "  --nodes N      of the cluster (3)               --cluster NAME   (nuvatsimo)\n"
+    "  --lease MS     of a node (4000)                 --margin MS      that its own lease is shorter (400)\n"
+    "  --beat MS      between two beats (100)          --grace MS       that a dead daemon's seats have to end (50)\n"
+    "  --policy wide|exact  of tokens (wide)           --threads N      for data (4)\n"
+    "  --cache        the kernel caches pages          --hook COMMAND   is run with a node's number before that is declared\n"
+    "For tests alone: --no-lease, --keep-pages (at a grant), --loss PERCENT (of messages; as many come twice).\n";
+
+enum { NODE = 1, NODES, BACKING, FOLDER, PROGRAM, COROSYNC, TCP, KEY, CLUSTER, LEASE, MARGIN, BEAT, GRACE, POLICY, THREADS, CACHE, HOOK, NO_LEASE, KEEP_PAGES, LOSS };
+static const struct option options[] = {
+    {"node", 1, NULL, NODE}, {"nodes", 1, NULL, NODES}, {"backing", 1, NULL, BACKING}, {"folder", 1, NULL, FOLDER}, {"program", 1, NULL, PROGRAM},
+    {"corosync", 0, NULL, COROSYNC}, {"tcp", 1, NULL, TCP}, {"key", 1, NULL, KEY}, {"cluster", 1, NULL, CLUSTER}, {"lease", 1, NULL, LEASE},
+    {"margin", 1, NULL, MARGIN}, {"beat", 1, NULL, BEAT}, {"grace", 1, NULL, GRACE}, {"policy", 1, NULL, POLICY}, {"threads", 1, NULL, THREADS},
+    {"cache", 0, NULL, CACHE}, {"hook", 1, NULL, HOOK}, {"no-lease", 0, NULL, NO_LEASE}, {"keep-pages", 0, NULL, KEEP_PAGES}, {"loss", 1, NULL, LOSS},
+    {NULL, 0, NULL, 0},
+};
+
+static void refuse(void) {
+    fputs(usage, stderr);
+    exit(2);
+}
+
+static int number(const char *text, int least, int most) {
+    char *end;
+    long value = strtol(text, &end, 10);
+    if (end == text || *end || value < least || value > most)
+        refuse();
+    return (int)value;
+}
+
+static void take_number(int option, const char *value) {
+    switch (option) {
+    case NODE: settings.me = number(value, 1, MOST_NODES); break;
+    case NODES: settings.nodes = number(value, 1, MOST_NODES); break;
+    case LEASE: settings.lease_ms = number(value, 200, 600000); break;
+    case MARGIN: settings.margin_ms = number(value, 1, 600000); break;
+    case BEAT: settings.beat_ms = number(value, 5, 60000); break;
+    case GRACE: settings.grace_ms = number(value, 0, 60000); break;
+    case THREADS: settings.threads = number(value, 1, 64); break;
+    case LOSS: settings.loss = number(value, 0, 50); break;
+    default: refuse();
+    }
+}
+
+static void take_option(int option, const char *value) {
+    switch (option) {
+    case BACKING: settings.backing = value; break;
+    case FOLDER: settings.folder = value; break;
+    case PROGRAM: settings.program = value; break;
+    case COROSYNC: settings.by_cpg = true; break;
+    case TCP: settings.members = value; break;
+    case KEY: settings.key = value; break;
+    case CLUSTER: settings.cluster = value; break;
+    case POLICY: settings.policy = value; break;
+    case HOOK: settings.hook = value; break;
+    case CACHE: settings.caches = true; break;
+    case NO_LEASE: settings.fences = false; break;
+    case KEEP_PAGES: settings.forgets = false; break;
+    default: take_number(option, value);
+    }
+}
+
+static void read_words(int count, char **words) {
+    int option;
+    while ((option = getopt_long(count, words, "", options, NULL)) != -1)
+        take_option(option, optarg);
+    settings.mountpoint = words[optind];
+    bool whole = settings.me && settings.me <= settings.nodes && settings.backing && settings.folder && settings.program && settings.mountpoint &&
+                 optind + 1 == count && settings.by_cpg != (settings.members != NULL) && settings.margin_ms < settings.lease_ms;
+    if (!whole || strlen(settings.cluster) > 64 || strpbrk(settings.cluster, " \n"))
+        refuse();
+}
+
+// One daemon at a time has a node's folder: where a new one begins, the one before is dead.
+static void lock_folder(void) {
+    char path[512];
+    snprintf(path, sizeof path, "%s/lock", settings.folder);
+    int file = open(path, O_RDWR | O_CREAT | O_CLOEXEC, 0600);
+    if (file < 0 || flock(file, LOCK_EX | LOCK_NB))
+        die("%s: another daemon has it, or it can't be made", path);
+}
+
+static void tick(struct source *source, uint32_t events) {
+    uint64_t times;
+    static bool serves;
+    (void)events;
+    (void)!read(source->fd, &times, sizeof times);
+    lease_look();
+    view_tick();
+    if (is_serving && !serves && lease_holds()) {
+        serves = true;
+        fs_serve();
+        say("is mounted at %s", settings.mountpoint);
+    }
+}
+
+static bool stops;
+static void signalled(struct source *source, uint32_t events) {
+    struct signalfd_siginfo information;
+    (void)events;
+    (void)!read(source->fd, &information, sizeof information);
+    stops = true;
+}
+
+static void begin_clock(struct source *source) {
+    struct itimerspec every = {{0, TICK_MS * MS}, {0, TICK_MS * MS}};
+    *source = (struct source){timerfd_create(CLOCK_MONOTONIC, TFD_CLOEXEC | TFD_NONBLOCK), tick, NULL};
+    timerfd_settime(source->fd, 0, &every, NULL);
+    watch(source, EPOLLIN);
+}
+
+static void begin_signals(struct source *source) {
+    sigset_t set;
+    sigemptyset(&set);
+    sigaddset(&set, SIGTERM);
+    sigaddset(&set, SIGINT);
+    sigprocmask(SIG_BLOCK, &set, NULL);
+    signal(SIGPIPE, SIG_IGN);
+    *source = (struct source){signalfd(-1, &set, SFD_CLOEXEC | SFD_NONBLOCK), signalled, NULL};
+    watch(source, EPOLLIN);
+}
+
+int main(int count, char **words) {
+    static struct source clock, signals;
+    if (count == 4 && !strcmp(words[1], "say"))
+        return control_say(words[2], words[3]);
+    read_words(count, words);
+    srand((unsigned)settings.me);
+    lock_folder();
+    loop_begin();
+    begin_signals(&signals);
+    handover_begin();
+    copy_read();
+    fs_mount();
+    before_death = seats_kill_and_cut;
+    agree = settings.by_cpg ? &agree_cpg : &agree_tcp;
+    control_begin();
+    begin_clock(&clock);
+    agree->begin();
+    while (!stops && !fs_ended()) {
+        loop_turn();
+        seats_flush();
+        agree->flush();
+    }
+    fs_unmount();
+    seats_kill_and_cut();
+    agree->leave();
+    _exit(0);       // (the threads that serve may be in work)
+}

@@ -1,0 +1,185 @@
+// Names: folders, links, and what makes and takes them away. Each looks at the lease before it changes anything.
+#define _GNU_SOURCE
+#include "fs.h"
+#include <dirent.h>
+#include <errno.h>
+#include <fcntl.h>
+#include <stdio.h>
+#include <stdlib.h>
+#include <string.h>
+#include <sys/syscall.h>
+#include <unistd.h>
+
+static void reply_error(fuse_req_t request, int failed) { fuse_reply_err(request, failed ? errno : 0); }
+
+static void look_up(fuse_req_t request, fuse_ino_t parent, const char *name) {
+    struct fuse_entry_param entry;
+    int error = inode_look_up(parent, name, &entry);
+    if (error)
+        fuse_reply_err(request, error);
+    else
+        fuse_reply_entry(request, &entry);
+}
+
+static void forget(fuse_req_t request, fuse_ino_t node, uint64_t lookups) {
+    inode_forget(node, lookups);
+    fuse_reply_none(request);
+}
+
+static void forget_many(fuse_req_t request, size_t count, struct fuse_forget_data *forgets) {
+    for (size_t k = 0; k < count; k++)
+        inode_forget(forgets[k].ino, forgets[k].nlookup);
+    fuse_reply_none(request);
+}
+
+// What this daemon made is the caller's; in a folder with the set-group-ID bit its group stays.
+static void give_to_caller(fuse_req_t request, fuse_ino_t parent, const char *name) {
+    const struct fuse_ctx *caller = fuse_req_ctx(request);
+    struct stat folder;
+    bool keeps = !fstatat(inode_of(parent)->file, "", &folder, AT_EMPTY_PATH) && folder.st_mode & S_ISGID;
+    if (caller->uid || caller->gid)
+        (void)!fchownat(inode_of(parent)->file, name, caller->uid, keeps ? (gid_t)-1 : caller->gid, AT_SYMLINK_NOFOLLOW);
+}
+
+static void made(fuse_req_t request, fuse_ino_t parent, const char *name, int failed) {
+    if (failed) {
+        fuse_reply_err(request, errno);
+        return;
+    }
+    give_to_caller(request, parent, name);
+    look_up(request, parent, name);
+}
+
+static void make_node(fuse_req_t request, fuse_ino_t parent, const char *name, mode_t mode, dev_t device) {
+    lease_look();
+    made(request, parent, name, mknodat(inode_of(parent)->file, name, mode, device));
+}
+
+static void make_folder(fuse_req_t request, fuse_ino_t parent, const char *name, mode_t mode) {
+    lease_look();
+    made(request, parent, name, mkdirat(inode_of(parent)->file, name, mode));
+}
+
+static void make_symbolic_link(fuse_req_t request, const char *target, fuse_ino_t parent, const char *name) {
+    lease_look();
+    made(request, parent, name, symlinkat(target, inode_of(parent)->file, name));
+}
+
+static void read_link(fuse_req_t request, fuse_ino_t node) {
+    char target[4097];
+    ssize_t length = readlinkat(inode_of(node)->file, "", target, sizeof target - 1);
+    if (length < 0) {
+        fuse_reply_err(request, errno);
+        return;
+    }
+    target[length] = 0;
+    fuse_reply_readlink(request, target);
+}
+
+static void make_link(fuse_req_t request, fuse_ino_t node, fuse_ino_t parent, const char *name) {
+    char path[64];
+    inode_path(inode_of(node), path);
+    lease_look();
+    if (linkat(AT_FDCWD, path, inode_of(parent)->file, name, AT_SYMLINK_FOLLOW))
+        fuse_reply_err(request, errno);
+    else
+        look_up(request, parent, name);
+}
+
+static void take_name(fuse_req_t request, fuse_ino_t parent, const char *name) {
+    lease_look();
+    reply_error(request, unlinkat(inode_of(parent)->file, name, 0));
+}
+
+static void take_folder(fuse_req_t request, fuse_ino_t parent, const char *name) {
+    lease_look();
+    reply_error(request, unlinkat(inode_of(parent)->file, name, AT_REMOVEDIR));
+}
+
+static void rename_it(fuse_req_t request, fuse_ino_t parent, const char *name, fuse_ino_t other, const char *other_name, unsigned flags) {
+    lease_look();
+    reply_error(request, (int)syscall(SYS_renameat2, inode_of(parent)->file, name, inode_of(other)->file, other_name, flags));
+}
+
+static void open_folder(fuse_req_t request, fuse_ino_t node, struct fuse_file_info *info) {
+    int file = openat(inode_of(node)->file, ".", O_RDONLY | O_DIRECTORY | O_CLOEXEC);
+    DIR *folder = file < 0 ? NULL : fdopendir(file);
+    if (!folder) {
+        int error = errno;
+        if (file >= 0)
+            close(file);
+        fuse_reply_err(request, error);
+        return;
+    }
+    info->fh = (uintptr_t)folder;
+    fuse_reply_open(request, info);
+}
+
+// Adds an entry to what is read of a folder: how many bytes it takes, more than there are where it has no place.
+static size_t add_entry(fuse_req_t request, fuse_ino_t node, char *bytes, size_t room, const struct dirent *found, bool with_attributes) {
+    struct fuse_entry_param entry = {.attr = {.st_ino = found->d_ino, .st_mode = (mode_t)found->d_type << 12}};
+    bool is_dots = !strcmp(found->d_name, ".") || !strcmp(found->d_name, "..");
+    if (!with_attributes)
+        return fuse_add_direntry(request, bytes, room, found->d_name, &entry.attr, found->d_off);
+    if (!is_dots && inode_look_up(node, found->d_name, &entry))
+        return 0;       // (it went meanwhile)
+    size_t length = fuse_add_direntry_plus(request, bytes, room, found->d_name, &entry, found->d_off);
+    if (length > room && entry.ino)
+        inode_forget(entry.ino, 1);
+    return length;
+}
+
+static void read_entries(fuse_req_t request, fuse_ino_t node, size_t size, off_t offset, struct fuse_file_info *info, bool with_attributes) {
+    DIR *folder = (DIR *)(uintptr_t)info->fh;
+    char *bytes = room_for(1, size);
+    size_t length = 0;
+    struct dirent *found;
+    seekdir(folder, offset);
+    while ((found = readdir(folder))) {
+        size_t more = add_entry(request, node, bytes + length, size - length, found, with_attributes);
+        if (more > size - length)
+            break;
+        length += more;
+    }
+    fuse_reply_buf(request, bytes, length);
+    free(bytes);
+}
+
+static void read_folder(fuse_req_t request, fuse_ino_t node, size_t size, off_t offset, struct fuse_file_info *info) {
+    read_entries(request, node, size, offset, info, false);
+}
+
+static void read_folder_plus(fuse_req_t request, fuse_ino_t node, size_t size, off_t offset, struct fuse_file_info *info) {
+    read_entries(request, node, size, offset, info, true);
+}
+
+static void release_folder(fuse_req_t request, fuse_ino_t node, struct fuse_file_info *info) {
+    (void)node;
+    closedir((DIR *)(uintptr_t)info->fh);
+    fuse_reply_err(request, 0);
+}
+
+static void sync_folder(fuse_req_t request, fuse_ino_t node, int data_only, struct fuse_file_info *info) {
+    (void)node;
+    int file = dirfd((DIR *)(uintptr_t)info->fh);
+    reply_error(request, data_only ? fdatasync(file) : fsync(file));
+}
+
+void names_operations(struct fuse_lowlevel_ops *operations) {
+    operations->lookup = look_up;
+    operations->forget = forget;
+    operations->forget_multi = forget_many;
+    operations->mknod = make_node;
+    operations->mkdir = make_folder;
+    operations->symlink = make_symbolic_link;
+    operations->readlink = read_link;
+    operations->link = make_link;
+    operations->unlink = take_name;
+    operations->rmdir = take_folder;
+    operations->rename = rename_it;
+    operations->opendir = open_folder;
+    operations->readdir = read_folder;
+    operations->readdirplus = read_folder_plus;
+    operations->releasedir = release_folder;
+    operations->fsyncdir = sync_folder;
+}

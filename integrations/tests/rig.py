@@ -1,0 +1,206 @@
+"""A cluster on one machine, for tests. Each test runs in namespaces of its own (mounts, processes, network): when it ends, in whatever way, the kernel
+takes away its mounts, its processes and its networks.
+
+A test calls `run_alone(main, seconds)`. `main` is given a Rig: `rig.check(name, wrong)` counts a case, `rig.cluster(..)` starts nodes."""
+import glob
+import os
+import re
+import shutil
+import signal
+import subprocess
+import sys
+import tempfile
+import time
+
+HERE = os.path.dirname(os.path.abspath(__file__))
+ROOT = os.path.dirname(os.path.dirname(HERE))
+ALONE = "NUVNODE_TEST_IS_ALONE"
+WARM = 20  # seconds that a cluster has to serve
+PORT = 7400
+
+
+def run_alone(main, seconds):
+    """Runs `main` in namespaces of its own, for so many seconds at most, and ends with its status."""
+    if os.environ.get(ALONE) != "yes":
+        words = ["timeout", "--foreground", "-k", "2", str(seconds), "unshare", "--mount", "--net", "--pid", "--ipc", "--fork", "--kill-child", "--mount-proc"]
+        status = subprocess.run([*words, sys.executable, *sys.argv], env={**os.environ, ALONE: "yes"}, check=False).returncode
+        if status in (124, 137):
+            print(f"{sys.argv[0]}: took more than {seconds} s")
+        sys.exit(1 if status else 0)
+    subprocess.run(["mount", "--make-rprivate", "/"], check=True)
+    subprocess.run(["mount", "-t", "tmpfs", "tmpfs", "/run"], check=True)
+    subprocess.run(["ip", "link", "set", "lo", "up"], check=True)
+    signal.signal(signal.SIGTERM, lambda *_: sys.exit(1))
+    room = tempfile.mkdtemp(prefix="nuvnode-")
+    os.chmod(room, 0o711)
+    rig = Rig(room)
+    try:
+        main(rig)
+    finally:
+        rig.end()
+        if rig.failed and os.environ.get("KEEP"):
+            print(f"kept: {room}")
+        else:
+            shutil.rmtree(room, ignore_errors=True)
+    print(f"{rig.passed} passed, {rig.failed} failed")
+    sys.exit(1 if rig.failed or not rig.passed else 0)
+
+
+def wait_for(true, seconds, what):
+    """Waits until it is true; whether it came."""
+    end = time.monotonic() + seconds
+    while time.monotonic() < end:
+        if true():
+            return True
+        time.sleep(0.02)
+    print(f"  not within {seconds} s: {what}")
+    return False
+
+
+class Rig:
+    """What a test counts and starts."""
+
+    def __init__(self, room):
+        self.room, self.passed, self.failed, self.clusters = room, 0, 0, []
+        self.program = os.environ.get("LOCKREPLAY", os.path.join(ROOT, "release/out/lockreplay"))
+        self.nuvnode = os.environ.get("NUVNODE", os.path.join(ROOT, "integrations/node/out/nuvnode"))
+
+    def check(self, name, wrong=""):
+        """A case: `wrong` says what is wrong, or is empty."""
+        self.passed, self.failed = self.passed + (not wrong), self.failed + bool(wrong)
+        print(f"{'FAILED' if wrong else 'ok'}: {name}{': ' if wrong else ''}{wrong}", flush=True)
+        return not wrong
+
+    def cluster(self, **words):
+        """Starts a cluster; it serves."""
+        cluster = Cluster(self, len(self.clusters), **words)
+        self.clusters.append(cluster)
+        cluster.begin()
+        return cluster
+
+    def end(self):
+        for cluster in self.clusters:
+            cluster.end()
+
+
+class Cluster:
+    """Nodes 1 to N over one folder."""
+
+    def __init__(self, rig, number, nodes=3, options=(), corosync=None):
+        self.rig, self.nodes, self.options, self.net = rig, nodes, list(options), corosync
+        self.folder = os.path.join(rig.room, f"c{number}")
+        self.backing, self.port, self.daemons = os.path.join(self.folder, "data"), PORT + number, {}
+        os.makedirs(self.backing)
+        self.key = os.path.join(self.folder, "key")
+        with open(self.key, "wb") as file:
+            file.write(os.urandom(32))
+        for node in range(1, nodes + 1):
+            os.makedirs(self.mount(node))
+            os.makedirs(self.state(node))
+
+    def mount(self, node):
+        return os.path.join(self.folder, f"mnt{node}")
+
+    def state(self, node):
+        return os.path.join(self.folder, f"node{node}")
+
+    def path(self, node, name):
+        return os.path.join(self.mount(node), name)
+
+    def start(self, node):
+        """Starts the daemon of a node."""
+        words = [self.rig.nuvnode, "--node", str(node), "--nodes", str(self.nodes), "--backing", self.backing, "--folder", self.state(node)]
+        words += ["--program", self.rig.program, *self.options]
+        words += self.net.words(node) if self.net else ["--tcp", f"127.0.0.1:{self.port}", "--key", self.key]
+        subprocess.run(["umount", "-l", self.mount(node)], stderr=subprocess.DEVNULL, check=False)
+        with open(self.said(node), "ab") as out:
+            inside = self.net.inside(node) if self.net else []
+            self.daemons[node] = subprocess.Popen([*inside, *words, self.mount(node)], stderr=out, stdout=out, stdin=subprocess.DEVNULL)
+
+    def said(self, node):
+        return os.path.join(self.folder, f"node{node}.out")
+
+    def text(self, node):
+        """What the daemon of a node said."""
+        with open(self.said(node), encoding="utf-8", errors="replace") as file:
+            return file.read()
+
+    def say(self, node, line):
+        return subprocess.run([self.rig.nuvnode, "say", self.state(node), line], capture_output=True, text=True, check=False).stdout
+
+    def serves(self, node):
+        return " serves " in self.say(node, "status") and os.path.ismount(self.mount(node))
+
+    def begin(self):
+        for node in range(1, self.nodes + 1):
+            self.start(node)
+        if not all(wait_for(lambda node=node: self.serves(node), WARM, f"node {node} serves") for node in range(1, self.nodes + 1)):
+            for node in range(1, self.nodes + 1):
+                print(self.text(node))
+            raise SystemExit("the cluster does not begin")
+
+    def alive(self, node):
+        return node in self.daemons and self.daemons[node].poll() is None
+
+    def kill(self, node, how=signal.SIGKILL):
+        self.daemons[node].send_signal(how)
+        if how == signal.SIGKILL:
+            self.daemons[node].wait()
+
+    def seats(self, node):
+        """The processes of the daemon's seats."""
+        told = subprocess.run(["pgrep", "-P", str(self.daemons[node].pid)], capture_output=True, text=True, check=False).stdout
+        return [int(pid) for pid in told.split()]
+
+    def stop(self, node):
+        """Stops the daemon and its seats, as a machine that is paused."""
+        pids = [self.daemons[node].pid, *self.seats(node)]
+        for pid in pids:
+            os.kill(pid, signal.SIGSTOP)
+        return pids
+
+    def again(self, node):
+        """Begins the daemon anew, until it serves."""
+        self.start(node)
+        return wait_for(lambda: self.serves(node), WARM, f"node {node} serves again")
+
+    def end(self):
+        for daemon in self.daemons.values():
+            if daemon.poll() is None:
+                daemon.terminate()
+        for node, daemon in self.daemons.items():
+            try:
+                daemon.wait(5)
+            except subprocess.TimeoutExpired:
+                daemon.kill()
+                daemon.wait()
+            subprocess.run(["umount", "-l", self.mount(node)], stderr=subprocess.DEVNULL, check=False)
+
+    def logs(self):
+        """The logs that have a whole first block."""
+        found = []
+        for log in sorted(glob.glob(os.path.join(self.folder, "node*/*.log"))):
+            with open(log, "rb") as file:
+                if b"\nend 0\n" in file.read(4096):
+                    found.append(log)
+        return found
+
+    def merge(self, *words):
+        """The status of `merge`, and what it wrote; the nodes have ended."""
+        journal = os.path.join(self.folder, "journal")
+        ran = subprocess.run([self.rig.program, "merge", *self.logs(), "--journal", journal, *words], capture_output=True, text=True, check=False)
+        return ran.returncode, ran.stdout + ran.stderr
+
+    def audit(self):
+        ran = subprocess.run([self.rig.program, "audit", os.path.join(self.folder, "journal")], capture_output=True, text=True, check=False)
+        return ran.returncode, ran.stdout + ran.stderr
+
+    def judge_logs(self, name):
+        """Ends the nodes: all logs are one run of the proved rule, or it is a failure."""
+        self.end()
+        status, said = self.merge()
+        if not self.rig.check(f"{name}: the logs merge: {said.strip()[:80]}" if not status else f"{name}: the logs merge", said[:400] if status else ""):
+            return 0
+        status, told = self.audit()
+        self.rig.check(f"{name}: audit", "" if not status and told.strip().endswith("yes") else told[:300])
+        return int(re.search(r"entries (\d+)", said)[1])
