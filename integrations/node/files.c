@@ -41,6 +41,7 @@ static void give_back(void) {
         if (!(cluster.files[file].users & bit(settings.me)) || gives[file] || locks_have(file))
             continue;
         gives[file] = true;
+        cache_forget(file);         // (no revoke asks for what is dirty, once the number is of another file)
         view_send("G %d", file);
     }
 }

@@ -83,11 +83,52 @@ class Rig:
             cluster.end()
 
 
+class Spaces:
+    """A network namespace for each node, on a bridge: 10.77.0.N. What a node sends can be cut off."""
+
+    def __init__(self, nodes):
+        self.run("ip", "link", "add", "bridge0", "type", "bridge")
+        self.run("ip", "addr", "add", "10.77.0.254/24", "dev", "bridge0")
+        self.run("ip", "link", "set", "bridge0", "up")
+        for node in range(1, nodes + 1):
+            self.run("ip", "netns", "add", f"n{node}")
+            self.run("ip", "link", "add", f"veth{node}", "type", "veth", "peer", "name", "eth0", "netns", f"n{node}")
+            self.run("ip", "link", "set", f"veth{node}", "master", "bridge0", "up")
+            self.run("ip", "-n", f"n{node}", "addr", "add", f"10.77.0.{node}/24", "dev", "eth0")
+            for name in ("eth0", "lo"):
+                self.run("ip", "-n", f"n{node}", "link", "set", name, "up")
+
+    @staticmethod
+    def run(*words):
+        subprocess.run(words, check=True)
+
+    def cut(self, node):
+        self.run("ip", "link", "set", f"veth{node}", "down")
+
+    def join(self, node):
+        self.run("ip", "link", "set", f"veth{node}", "up")
+
+    @staticmethod
+    def inside(node):
+        return ["nsenter", f"--net=/run/netns/n{node}"]
+
+    @staticmethod
+    def words(_node, key):
+        return ["--tcp", f"10.77.0.1:{PORT}", "--key", key]
+
+    def stop(self, _node):
+        """What is stopped with the daemon of a node."""
+        return []
+
+    def end(self):
+        pass
+
+
 class Cluster:
     """Nodes 1 to N over one folder."""
 
-    def __init__(self, rig, number, nodes=3, options=(), corosync=None):
-        self.rig, self.nodes, self.options, self.net = rig, nodes, list(options), corosync
+    def __init__(self, rig, number, nodes=3, options=(), net=None):
+        self.rig, self.nodes, self.options, self.net = rig, nodes, list(options), net
         self.folder = os.path.join(rig.room, f"c{number}")
         self.backing, self.port, self.daemons = os.path.join(self.folder, "data"), PORT + number, {}
         os.makedirs(self.backing)
@@ -111,7 +152,7 @@ class Cluster:
         """Starts the daemon of a node."""
         words = [self.rig.nuvnode, "--node", str(node), "--nodes", str(self.nodes), "--backing", self.backing, "--folder", self.state(node)]
         words += ["--program", self.rig.program, *self.options]
-        words += self.net.words(node) if self.net else ["--tcp", f"127.0.0.1:{self.port}", "--key", self.key]
+        words += self.net.words(node, self.key) if self.net else ["--tcp", f"127.0.0.1:{self.port}", "--key", self.key]
         subprocess.run(["umount", "-l", self.mount(node)], stderr=subprocess.DEVNULL, check=False)
         with open(self.said(node), "ab") as out:
             inside = self.net.inside(node) if self.net else []
@@ -154,10 +195,18 @@ class Cluster:
 
     def stop(self, node):
         """Stops the daemon and its seats, as a machine that is paused."""
-        pids = [self.daemons[node].pid, *self.seats(node)]
+        pids = [*(self.net.stop(node) if self.net else []), self.daemons[node].pid, *self.seats(node)]
         for pid in pids:
             os.kill(pid, signal.SIGSTOP)
         return pids
+
+    def declare(self, node):
+        """The operator's word that a node failed, where the members don't find it out by themselves."""
+        if not self.finds_out():
+            self.say(1, f"declare {node}")
+
+    def finds_out(self):
+        return bool(self.net and self.net.__class__ is not Spaces)
 
     def again(self, node):
         """Begins the daemon anew, until it serves."""

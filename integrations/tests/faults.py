@@ -1,0 +1,109 @@
+"""What is tried of nodes that fail: one is killed, cut off, or stopped for longer than its lease. Of each transport."""
+import os
+import select
+import signal
+import subprocess
+import sys
+import time
+
+from rig import HERE, wait_for
+
+HOLDER = os.path.join(HERE, "holder.py")
+STALE = 0.6  # seconds that a node works behind a pause, where nothing stops it
+
+
+class Holder:
+    """A process that holds a lock on a node."""
+
+    def __init__(self, cluster, node, word, *words):
+        self.process = subprocess.Popen([sys.executable, HOLDER, cluster.path(node, "file"), word, *words], stdout=subprocess.PIPE, text=True)
+
+    def line(self, seconds):
+        """What it says next, or nothing."""
+        ready, _, _ = select.select([self.process.stdout], [], [], seconds)
+        return self.process.stdout.readline().strip() if ready else ""
+
+    def end(self):
+        self.process.kill()
+        self.process.wait()
+
+
+def data(cluster):
+    with open(os.path.join(cluster.backing, "file"), "rb") as file:
+        return file.read(8).decode().strip()
+
+
+def fault(rig, cluster, name, fail, seconds, heal):
+    """Node 3 holds a lock, and fails; a process of node 2 waits for that lock, gets it once node 3 is declared, and writes. Then node 3 may go on. Its
+    process writes nothing more. It begins again."""
+    old = Holder(cluster, 3, "old")
+    rig.check(f"{name}: node 3 holds", "" if old.line(5) == "holds" else "it does not")
+    new = Holder(cluster, 2, "new", "once")
+    time.sleep(0.2)
+    since = time.monotonic()
+    fail()
+    cluster.declare(3)
+    said = new.line(seconds)
+    took = time.monotonic() - since
+    rig.check(f"{name}: node 2 has its lock {took:.1f} s later", "" if said == "holds" else f"it said {said!r}: {cluster.text(1)[-800:]}")
+    heal()
+    gone = old.line(seconds)
+    rig.check(f"{name}: the process of node 3 is told {gone}", "" if gone.startswith("E") else f"{gone!r}")
+    rig.check(f"{name}: what node 2 wrote is there", "" if data(cluster) == "new" else data(cluster))
+    old.end()
+    new.end()
+    rig.check(f"{name}: node 3 has ended", "" if wait_for(lambda: not cluster.alive(3), seconds, "it ends") else cluster.text(3)[-500:])
+    rig.check(f"{name}: it begins again", "" if cluster.again(3) else cluster.text(3)[-500:])
+
+
+def killed(rig, cluster):
+    fault(rig, cluster, "killed", lambda: cluster.kill(3), 15, lambda: None)
+
+
+def cut_off(rig, cluster):
+    def fail():
+        cluster.net.cut(3)
+        rig.check("cut off: it fences itself", "" if wait_for(lambda: not cluster.alive(3), 10, "its daemon ends") else cluster.text(3)[-500:])
+
+    fault(rig, cluster, "cut off", fail, 15, lambda: cluster.net.join(3))
+
+
+def pause(cluster):
+    """Stops a whole machine: what it is sent meanwhile comes a while after it goes on."""
+    pids = cluster.stop(3)
+    cluster.net.cut(3)
+
+    def go_on():
+        for pid in reversed(pids):
+            os.kill(pid, signal.SIGCONT)
+        time.sleep(STALE)
+        cluster.net.join(3)
+
+    return go_on
+
+
+def stopped(rig, cluster):
+    resume = []
+    fault(rig, cluster, "stopped", lambda: resume.append(pause(cluster)), 15, lambda: resume[0]())
+    said = cluster.text(3)
+    rig.check("stopped: it fenced itself", "" if "fences itself" in said else said[-500:])
+
+
+def unfenced(rig, cluster):
+    """The same pause where nodes have no lease: the data of the new holder is overwritten, and the logs are no run."""
+    old = Holder(cluster, 3, "old")
+    rig.check("no lease: node 3 holds", "" if old.line(5) == "holds" else "it does not")
+    new = Holder(cluster, 2, "new", "once")
+    time.sleep(0.2)
+    go_on = pause(cluster)
+    cluster.declare(3)
+    rig.check("no lease: node 2 has its lock", "" if new.line(15) == "holds" else "it does not")
+    before = data(cluster)
+    go_on()
+    time.sleep(0.2)
+    rig.check("no lease: what node 2 wrote is overwritten", "" if (before, data(cluster)) == ("new", "old") else f"{before}, then {data(cluster)}")
+    old.end()
+    new.end()
+    cluster.end()
+    status, said = cluster.merge()
+    rig.check("no lease: merge says `no order`", "" if status == 1 and "no order" in said else f"{status} {said[:300]}")
