@@ -124,6 +124,54 @@ class Spaces:
         pass
 
 
+class Corosync(Spaces):
+    """A corosync for each node of three, in its namespace, by integrations/corosync.conf."""
+
+    def __init__(self, room):
+        super().__init__(3)
+        self.room, self.running = room, {}
+        self.key = self.make_key("authkey")
+        for node in (1, 2, 3):
+            self.start(node)
+
+    def make_key(self, name):
+        path = os.path.join(self.room, name)
+        subprocess.run(["corosync-keygen", "-l", "-k", path], check=True, stdout=subprocess.DEVNULL)
+        return path
+
+    def start(self, node, key=None):
+        folder = os.path.join(self.room, f"corosync{node}")
+        os.makedirs(folder, exist_ok=True)
+        with open(os.path.join(ROOT, "integrations/corosync.conf"), encoding="utf-8") as file:
+            text = file.read()
+        text = text.replace("/etc/corosync/authkey", key or self.key).replace("/var/lib/corosync", folder)
+        with open(os.path.join(folder, "corosync.conf"), "w", encoding="utf-8") as file:
+            file.write(text)
+        words = [*self.inside(node), "unshare", "--mount", "sh", "-c", f"mount -t tmpfs tmpfs /run; exec corosync -f -c {folder}/corosync.conf"]
+        with open(os.path.join(folder, "out"), "ab") as out:
+            self.running[node] = subprocess.Popen(words, stdout=out, stderr=out, stdin=subprocess.DEVNULL)
+
+    def sees(self, node):
+        """How many members the node's corosync has."""
+        told = subprocess.run([*self.inside(node), "corosync-quorumtool", "-l"], capture_output=True, text=True, check=False).stdout
+        return len(re.findall(r"^\s+\d+\s+\d+\s", told, re.MULTILINE))
+
+    def kill(self, node):
+        self.running[node].kill()
+        self.running[node].wait()
+
+    def stop(self, node):
+        return [self.running[node].pid]
+
+    @staticmethod
+    def words(_node, _key):
+        return ["--corosync"]
+
+    def end(self):
+        for node in self.running:
+            self.kill(node)
+
+
 class Cluster:
     """Nodes 1 to N over one folder."""
 
@@ -214,15 +262,17 @@ class Cluster:
         return wait_for(lambda: self.serves(node), WARM, f"node {node} serves again")
 
     def end(self):
-        for daemon in self.daemons.values():
-            if daemon.poll() is None:
-                daemon.terminate()
+        asked = [node for node in self.daemons if self.alive(node)]
+        for node in asked:
+            self.daemons[node].terminate()
         for node, daemon in self.daemons.items():
             try:
                 daemon.wait(5)
             except subprocess.TimeoutExpired:
                 daemon.kill()
                 daemon.wait()
+            if node in asked and daemon.returncode:
+                self.rig.check(f"the daemon of node {node} ends when it is asked to", f"status {daemon.returncode}: {self.text(node)[-800:]}")
             subprocess.run(["umount", "-l", self.mount(node)], stderr=subprocess.DEVNULL, check=False)
 
     def logs(self):
