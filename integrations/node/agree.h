@@ -13,7 +13,6 @@ struct agreement {
     void (*post)(int node, const char *line, size_t length);    // to one of them; it may be lost
     void (*evict)(int node);                                // one that an operator declared
     void (*flush)(void);                                    // at the end of each turn
-    void (*leave)(void);
 };
 extern const struct agreement agree_tcp, agree_cpg;
 extern const struct agreement *agree;

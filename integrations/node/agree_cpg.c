@@ -117,9 +117,4 @@ static void flush(void) {
 
 static void evict(int node) { (void)node; }
 
-static void leave(void) {
-    cpg_leave(handle, &group);
-    cpg_finalize(handle);
-}
-
-const struct agreement agree_cpg = {true, begin, order, post, evict, flush, leave};
+const struct agreement agree_cpg = {true, begin, order, post, evict, flush};

@@ -97,11 +97,6 @@ static void take_line(struct link *link, char *line) {
             mail_came(rest + 1);
         else if (*rest == ' ')
             post((int)to, rest + 1, strlen(rest + 1));
-    } else if (line[0] == 'Q') {            // its daemon ends: it does nothing more
-        members &= ~bit(link->node);
-        link->open = false;
-        tell_members(bit(link->node), 0);
-        link_close(link);
     }
 }
 
@@ -134,16 +129,26 @@ static void went(struct link *link) {
     if (link->open) {
         link->open = false;
         members &= ~bit(link->node);
-        tell_members(0, bit(link->node));
+        tell_members(link->ended ? bit(link->node) : 0, link->ended ? 0 : bit(link->node));
     }
     drop_link(link);
+}
+
+// How many that dialled did not prove the key yet.
+static int strangers(void) {
+    int count = 0;
+    for (struct link *link = links; link; link = link->next)
+        count += !link->open;
+    return count;
 }
 
 static void came(struct source *source, uint32_t events) {
     (void)events;
     int descriptor = accept4(source->fd, NULL, NULL, SOCK_NONBLOCK | SOCK_CLOEXEC);
-    if (descriptor < 0)
+    if (descriptor < 0 || strangers() >= MOST_NODES) {
+        close(descriptor);
         return;
+    }
     struct link *link = room_for(1, sizeof *link);
     link->line = take_line;
     link->opened = came_in;
@@ -243,11 +248,4 @@ static void evict(int node) {
     link_close(link);
 }
 
-static void leave(void) {
-    if (!to_orderer || !to_orderer->open)
-        return;
-    link_add(to_orderer, "Q", "", 0);
-    link_flush(to_orderer);
-}
-
-const struct agreement agree_tcp = {false, begin, send_order, post, evict, flush_all, leave};
+const struct agreement agree_tcp = {false, begin, send_order, post, evict, flush_all};

@@ -92,7 +92,7 @@ void die(const char *format, ...) {
     va_start(words, format);
     say_words(format, words);
     va_end(words);
-    if (before_death)
+    if (before_death && gettid() == getpid())       // (seats are the loop's, which is the first thread)
         before_death();
     _exit(3);
 }

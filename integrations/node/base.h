@@ -31,6 +31,6 @@ void *room_for(size_t count, size_t size);
 int64_t now(void);                  // nanoseconds since the machine began, those included in which it slept
 void say(const char *format, ...) __attribute__((format(printf, 1, 2)));
 _Noreturn void die(const char *format, ...) __attribute__((format(printf, 1, 2)));
-// Runs before die ends the process: seats are killed, and their logs cut to what was read.
+// Runs before die ends the process, by the first thread: seats are killed, and their logs cut to what was read.
 extern void (*before_death)(void);
 #endif

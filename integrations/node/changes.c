@@ -93,8 +93,9 @@ void changes_begin_node(void) {
     say("serves in incarnation %d", starts + 1);
 }
 
+// (A daemon that has just begun may be told that it is a host: those servers were of the one before it, and are failed with that.)
 void changes_begin_server(int file) {
-    if (!cluster.servers[file].runs || cluster.servers[file].host != settings.me)
+    if (!is_serving || !cluster.servers[file].runs || cluster.servers[file].host != settings.me)
         return;
     server_seats[file] = seat_start(SEAT_SERVER, file, starts_of(START_SERVER, file));
     changes_tell(server_seats[file]);

@@ -1,6 +1,6 @@
 // Open files and their bytes. The lease is looked at before each write, and behind each read: what was read while it held is no later node's to change.
 #define _GNU_SOURCE
-#include "fs.h"
+#include "caller.h"
 #include <errno.h>
 #include <fcntl.h>
 #include <stdlib.h>
@@ -29,19 +29,27 @@ static void open_file(fuse_req_t request, fuse_ino_t node, struct fuse_file_info
     fuse_reply_open(request, info);
 }
 
+// A new file is the caller's. One that another node made meanwhile was not seen by the kernel, which so did not ask whether the caller may open it.
+static int make_file(fuse_req_t request, int folder, const char *name, int flags, mode_t mode) {
+    caller_begin(request, true);
+    int file = openat(folder, name, flags | O_CREAT | O_EXCL, mode);
+    caller_end();
+    if (file >= 0 || errno != EEXIST || flags & O_EXCL)
+        return file;
+    caller_begin(request, false);
+    file = openat(folder, name, (flags & ~(O_CREAT | O_EXCL)) | O_NOFOLLOW);
+    caller_end();
+    return file;
+}
+
 static void create_file(fuse_req_t request, fuse_ino_t parent, const char *name, mode_t mode, struct fuse_file_info *info) {
     struct fuse_entry_param entry;
-    const struct fuse_ctx *caller = fuse_req_ctx(request);
-    struct stat folder, found;
     lease_look();
-    int file = openat(inode_of(parent)->file, name, (info->flags | O_CREAT | O_CLOEXEC) & ~(O_NOFOLLOW | O_DIRECT), mode);
+    int file = make_file(request, inode_of(parent)->file, name, (info->flags | O_CLOEXEC) & ~(O_NOFOLLOW | O_DIRECT), mode);
     if (file < 0) {
         fuse_reply_err(request, errno);
         return;
     }
-    bool keeps = !fstatat(inode_of(parent)->file, "", &folder, AT_EMPTY_PATH) && folder.st_mode & S_ISGID;
-    if (caller->uid && !fstat(file, &found) && !found.st_uid && !found.st_size)
-        (void)!fchown(file, caller->uid, keeps ? (gid_t)-1 : caller->gid);
     int error = inode_look_up(parent, name, &entry);
     if (error) {
         close(file);

@@ -19,6 +19,8 @@ static int sequence, chosen;
 static bool asks;                   // this node's question came: what comes behind it is kept
 static struct buffer held;
 static long own_term;
+static int64_t asked;
+static const int64_t PATIENCE = 3000 * (int64_t)MS;
 static int own_count = -1;
 
 void join_ask(void) {
@@ -31,6 +33,12 @@ void join_ask(void) {
         own_term = cluster.term;
     }
     view_send("L %d %ld %d", ++sequence, own_term, own_count);
+    asked = now();
+}
+
+void join_ask_again(void) {
+    if (asked && now() - asked > PATIENCE)
+        join_ask();
 }
 
 // What all agree on, as lines for who asked; for 0 those that begin together.
@@ -142,8 +150,10 @@ static void end_of_it(const char *text) {
     cluster.is_first_life = first;
     is_formed = true;
     say("knows the cluster: %d changes, term %ld", cluster.count, cluster.term);
-    for (int node = 1; node <= settings.nodes; node++)
+    for (int node = 1; node <= settings.nodes; node++) {
+        lease_count_from_now(node);
         decide_left(node, cluster.members & bit(node) ? (int64_t)settings.grace_ms * MS : lease_time());
+    }
     copy_replace();
 }
 
@@ -166,8 +176,10 @@ void join_told(int from, char *text) {
     if (sscanf(text, "%d %d %c %n", &to, &its_sequence, &kind, &at) != 3)
         return;
     if (is_formed) {
-        if (kind == 'e' && to && claims[to].sequence == its_sequence)
+        if (kind == 'e' && to && claims[to].sequence == its_sequence) {
             cluster.formed |= bit(to);
+            lease_count_from_now(to);
+        }
         return;
     }
     bool is_mine = to ? to == settings.me && its_sequence == sequence : chosen && from == chosen && its_sequence == claims[chosen].sequence;

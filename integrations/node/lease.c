@@ -13,6 +13,7 @@ static struct {
     int64_t sent;
     uint64_t echoed;
 } beats[BEATS];
+static int64_t heard[MOST_NODES + 1];
 static long last_beat;
 static int64_t last_sent;
 static _Atomic int64_t holds_until;
@@ -37,6 +38,7 @@ void lease_beat(void) {
 }
 
 void lease_heard(int from, long beat) {
+    heard[from] = now();
     if (from != settings.me && view_echoes(from))
         view_send("A %d %ld", from, beat);
 }
@@ -65,6 +67,10 @@ void lease_look(void) {
     if (pthread_equal(pthread_self(), loop_thread))
         die("the lease is over since %.3f s: fences itself", (double)(now() - holds_until) / 1e9);
     lease_is_over();
-    for (;;)
-        pause();
+    sleep(1);
+    _exit(3);           // (the loop may wait for what this thread has in work)
 }
+
+void lease_count_from_now(int node) { heard[node] = now(); }
+
+bool lease_is_silent(int node) { return now() - heard[node] > lease_time(); }

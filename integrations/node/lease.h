@@ -11,5 +11,8 @@ bool lease_holds(void);
 // Ends the process where the lease is over. Any thread may look; only that of the loop ends the process, the others wait for it.
 void lease_look(void);
 int64_t lease_time(void);                           // nanoseconds after which a node that left may be declared
+// Whether no beat of a node came for as long as a lease: its daemon hangs, though it is a member.
+bool lease_is_silent(int node);
+void lease_count_from_now(int node);
 extern void (*lease_is_over)(void);                 // tells the loop, from another thread
 #endif

@@ -189,6 +189,7 @@ static void ready(struct source *source, uint32_t events) {
     if (length < 0 && (errno == EAGAIN || errno == EINTR))
         return;
     if (length <= 0) {
+        link->ended = length == 0;
         link_close(link);
         return;
     }

@@ -11,7 +11,8 @@ struct link {
     struct source source;
     struct buffer in, frame, out;           // frame: lines of this turn, out: what the socket did not take yet
     int node;                               // at the other end; 0 until it proved the key
-    bool dials, open, connecting, waits;
+    bool dials, open, waits;
+    bool ended;                             // the other end closed it: the daemon there is dead, since it does so in no other way
     char mine[NONCE], theirs[NONCE];
     struct seal_key session;
     unsigned long long sent, got;

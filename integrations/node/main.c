@@ -167,6 +167,5 @@ int main(int count, char **words) {
     }
     fs_unmount();
     seats_kill_and_cut();
-    agree->leave();
-    _exit(0);       // (the threads that serve may be in work)
+    _exit(0);       // (others learn of it once all threads are gone, and with them their writes)
 }

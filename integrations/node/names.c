@@ -1,6 +1,6 @@
 // Names: folders, links, and what makes and takes them away. Each looks at the lease before it changes anything.
 #define _GNU_SOURCE
-#include "fs.h"
+#include "caller.h"
 #include <dirent.h>
 #include <errno.h>
 #include <fcntl.h>
@@ -32,36 +32,30 @@ static void forget_many(fuse_req_t request, size_t count, struct fuse_forget_dat
     fuse_reply_none(request);
 }
 
-// What this daemon made is the caller's; in a folder with the set-group-ID bit its group stays.
-static void give_to_caller(fuse_req_t request, fuse_ino_t parent, const char *name) {
-    const struct fuse_ctx *caller = fuse_req_ctx(request);
-    struct stat folder;
-    bool keeps = !fstatat(inode_of(parent)->file, "", &folder, AT_EMPTY_PATH) && folder.st_mode & S_ISGID;
-    if (caller->uid || caller->gid)
-        (void)!fchownat(inode_of(parent)->file, name, caller->uid, keeps ? (gid_t)-1 : caller->gid, AT_SYMLINK_NOFOLLOW);
-}
-
+// Ends what was made as the caller.
 static void made(fuse_req_t request, fuse_ino_t parent, const char *name, int failed) {
-    if (failed) {
+    caller_end();
+    if (failed)
         fuse_reply_err(request, errno);
-        return;
-    }
-    give_to_caller(request, parent, name);
-    look_up(request, parent, name);
+    else
+        look_up(request, parent, name);
 }
 
 static void make_node(fuse_req_t request, fuse_ino_t parent, const char *name, mode_t mode, dev_t device) {
     lease_look();
+    caller_begin(request, true);
     made(request, parent, name, mknodat(inode_of(parent)->file, name, mode, device));
 }
 
 static void make_folder(fuse_req_t request, fuse_ino_t parent, const char *name, mode_t mode) {
     lease_look();
+    caller_begin(request, true);
     made(request, parent, name, mkdirat(inode_of(parent)->file, name, mode));
 }
 
 static void make_symbolic_link(fuse_req_t request, const char *target, fuse_ino_t parent, const char *name) {
     lease_look();
+    caller_begin(request, true);
     made(request, parent, name, symlinkat(target, inode_of(parent)->file, name));
 }
 

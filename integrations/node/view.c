@@ -13,6 +13,7 @@
 #include <stdlib.h>
 
 const struct agreement *agree;
+static const int64_t PATIENCE = 1000 * (int64_t)MS;
 
 void view_send(const char *format, ...) {
     char *text;
@@ -36,6 +37,7 @@ static void condemned(int node) {
     if (node == settings.me)
         die("an operator declares this node failed");
     cluster.condemned |= bit(node);
+    cluster.formed &= ~bit(node);
     if (!(cluster.members & bit(node)))
         return;
     decide_left(node, lease_time());        // (it may be there still, and have a lease)
@@ -90,6 +92,8 @@ void view_changed(uint64_t members, uint64_t died, uint64_t lost) {
             decide_left(node, lease_time());
         else if ((died | came) & bit(node))
             decide_left(node, (int64_t)settings.grace_ms * MS);
+        if (came & bit(node))
+            lease_count_from_now(node);
     }
     if (!is_formed) {
         join_ask();
@@ -102,9 +106,28 @@ void view_changed(uint64_t members, uint64_t died, uint64_t lost) {
     decide();
 }
 
+// A member that does not beat hangs: it is condemned by those who find that out, where no operator is asked.
+static void condemn_silent(void) {
+    static int64_t last;
+    uint64_t others = cluster.members & cluster.formed & ~bit(settings.me);
+    if (!agree->decides || now() - last < PATIENCE)
+        return;
+    for (int node = 1; node <= settings.nodes; node++) {
+        if (!(others & bit(node)) || !lease_is_silent(node))
+            continue;
+        say("node %d is silent", node);
+        view_condemn(node);
+        last = now();
+    }
+}
+
 void view_tick(void) {
-    if (is_formed)
+    if (is_formed) {
         lease_beat();
+        condemn_silent();
+    } else {
+        join_ask_again();
+    }
     locks_tick();
     for (int file = 1; file <= settings.files; file++)
         if (server_seats[file])

@@ -89,6 +89,22 @@ def stopped(rig, cluster):
     rig.check("stopped: it fenced itself", "" if "fences itself" in said else said[-500:])
 
 
+def hung(cluster):
+    """Stops the daemon and its seats, while its corosync goes on: the others condemn it once it is silent."""
+    pids = cluster.stop(3, whole=False)
+
+    def go_on():
+        for pid in reversed(pids):
+            os.kill(pid, signal.SIGCONT)
+
+    return go_on
+
+
+def hangs(rig, cluster):
+    resume = []
+    fault(rig, cluster, "hung", lambda: resume.append(hung(cluster)), 20, lambda: resume[0]())
+
+
 def unfenced(rig, cluster):
     """The same pause where nodes have no lease: the data of the new holder is overwritten, and the logs are no run."""
     old = Holder(cluster, 3, "old")

@@ -14,34 +14,38 @@ import time
 
 HERE = os.path.dirname(os.path.abspath(__file__))
 ROOT = os.path.dirname(os.path.dirname(HERE))
-ALONE = "NUVNODE_TEST_IS_ALONE"
+ALONE = "NUVNODE_TEST_FOLDER"
 WARM = 20  # seconds that a cluster has to serve
 PORT = 7400
 
 
 def run_alone(main, seconds):
-    """Runs `main` in namespaces of its own, for so many seconds at most, and ends with its status."""
-    if os.environ.get(ALONE) != "yes":
-        words = ["timeout", "--foreground", "-k", "2", str(seconds), "unshare", "--mount", "--net", "--pid", "--ipc", "--fork", "--kill-child", "--mount-proc"]
-        status = subprocess.run([*words, sys.executable, *sys.argv], env={**os.environ, ALONE: "yes"}, check=False).returncode
-        if status in (124, 137):
-            print(f"{sys.argv[0]}: took more than {seconds} s")
-        sys.exit(1 if status else 0)
+    """Runs `main` in namespaces of its own, for so many seconds at most, and ends with its status. Its folder is taken away by who waits for it."""
+    if ALONE in os.environ:
+        run_in(main, os.environ[ALONE])
+    room = tempfile.mkdtemp(prefix="nuvnode-")
+    os.chmod(room, 0o711)
+    words = ["timeout", "--foreground", "-k", "2", str(seconds), "unshare", "--mount", "--net", "--pid", "--ipc", "--fork", "--kill-child", "--mount-proc"]
+    try:
+        status = subprocess.run([*words, sys.executable, *sys.argv], env={**os.environ, ALONE: room}, check=False).returncode
+    finally:
+        shutil.rmtree(room, ignore_errors=True)
+    if status in (124, 137):
+        print(f"{sys.argv[0]}: took more than {seconds} s\n0 passed, 1 failed")
+    sys.exit(1 if status else 0)
+
+
+def run_in(main, room):
+    """Runs `main` in this process, whose namespaces are its own."""
     subprocess.run(["mount", "--make-rprivate", "/"], check=True)
     subprocess.run(["mount", "-t", "tmpfs", "tmpfs", "/run"], check=True)
     subprocess.run(["ip", "link", "set", "lo", "up"], check=True)
     signal.signal(signal.SIGTERM, lambda *_: sys.exit(1))
-    room = tempfile.mkdtemp(prefix="nuvnode-")
-    os.chmod(room, 0o711)
     rig = Rig(room)
     try:
         main(rig)
     finally:
         rig.end()
-        if rig.failed and os.environ.get("KEEP"):
-            print(f"kept: {room}")
-        else:
-            shutil.rmtree(room, ignore_errors=True)
     print(f"{rig.passed} passed, {rig.failed} failed")
     sys.exit(1 if rig.failed or not rig.passed else 0)
 
@@ -241,9 +245,9 @@ class Cluster:
         told = subprocess.run(["pgrep", "-P", str(self.daemons[node].pid)], capture_output=True, text=True, check=False).stdout
         return [int(pid) for pid in told.split()]
 
-    def stop(self, node):
-        """Stops the daemon and its seats, as a machine that is paused."""
-        pids = [*(self.net.stop(node) if self.net else []), self.daemons[node].pid, *self.seats(node)]
+    def stop(self, node, whole=True):
+        """Stops the daemon and its seats, and with the whole machine its corosync too."""
+        pids = [*(self.net.stop(node) if self.net and whole else []), self.daemons[node].pid, *self.seats(node)]
         for pid in pids:
             os.kill(pid, signal.SIGSTOP)
         return pids
@@ -271,7 +275,7 @@ class Cluster:
             except subprocess.TimeoutExpired:
                 daemon.kill()
                 daemon.wait()
-            if node in asked and daemon.returncode:
+            if node in asked and daemon.returncode not in (0, 3):  # (3: the others were gone before it)
                 self.rig.check(f"the daemon of node {node} ends when it is asked to", f"status {daemon.returncode}: {self.text(node)[-800:]}")
             subprocess.run(["umount", "-l", self.mount(node)], stderr=subprocess.DEVNULL, check=False)
 

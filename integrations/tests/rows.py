@@ -50,7 +50,10 @@ class Inserter(threading.Thread):
 
 def ask(cluster, node, statement):
     words = ["sqlite3", "-cmd", f".timeout {BUSY}", cluster.path(node, "rows.db"), statement]
-    ran = subprocess.run(words, capture_output=True, text=True, timeout=30, check=False)
+    try:
+        ran = subprocess.run(words, capture_output=True, text=True, timeout=30, check=False)
+    except subprocess.TimeoutExpired:
+        return "sqlite3 does not answer"
     return (ran.stdout + ran.stderr).strip()
 
 
