@@ -15,6 +15,7 @@
 #include <string.h>
 #include <sys/epoll.h>
 #include <sys/file.h>
+#include <sys/resource.h>
 #include <sys/signalfd.h>
 #include <sys/timerfd.h>
 #include <unistd.h>
@@ -149,6 +150,7 @@ int main(int count, char **words) {
         return control_say(words[2], words[3]);
     read_words(count, words);
     srand((unsigned)settings.me);
+    (void)setpriority(PRIO_PROCESS, 0, -15);        // (a lease needs time when it needs it; seats and threads have it from here)
     lock_folder();
     loop_begin();
     begin_signals(&signals);

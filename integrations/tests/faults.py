@@ -37,7 +37,7 @@ def fault(rig, cluster, name, fail, seconds, heal):
     """Node 3 holds a lock, and fails; a process of node 2 waits for that lock, gets it once node 3 is declared, and writes. Then node 3 may go on. Its
     process writes nothing more. It begins again."""
     old = Holder(cluster, 3, "old")
-    rig.check(f"{name}: node 3 holds", "" if old.line(5) == "holds" else "it does not")
+    rig.check(f"{name}: node 3 holds", "" if old.line(20) == "holds" else "it does not")
     new = Holder(cluster, 2, "new", "once")
     time.sleep(0.2)
     since = time.monotonic()
@@ -57,15 +57,15 @@ def fault(rig, cluster, name, fail, seconds, heal):
 
 
 def killed(rig, cluster):
-    fault(rig, cluster, "killed", lambda: cluster.kill(3), 15, lambda: None)
+    fault(rig, cluster, "killed", lambda: cluster.kill(3), 30, lambda: None)
 
 
 def cut_off(rig, cluster):
     def fail():
         cluster.net.cut(3)
-        rig.check("cut off: it fences itself", "" if wait_for(lambda: not cluster.alive(3), 10, "its daemon ends") else cluster.text(3)[-500:])
+        rig.check("cut off: it fences itself", "" if wait_for(lambda: not cluster.alive(3), 30, "its daemon ends") else cluster.text(3)[-500:])
 
-    fault(rig, cluster, "cut off", fail, 15, lambda: cluster.net.join(3))
+    fault(rig, cluster, "cut off", fail, 30, lambda: cluster.net.join(3))
 
 
 def pause(cluster):
@@ -84,7 +84,7 @@ def pause(cluster):
 
 def stopped(rig, cluster):
     resume = []
-    fault(rig, cluster, "stopped", lambda: resume.append(pause(cluster)), 15, lambda: resume[0]())
+    fault(rig, cluster, "stopped", lambda: resume.append(pause(cluster)), 30, lambda: resume[0]())
     said = cluster.text(3)
     rig.check("stopped: it fenced itself", "" if "fences itself" in said else said[-500:])
 
@@ -102,18 +102,18 @@ def hung(cluster):
 
 def hangs(rig, cluster):
     resume = []
-    fault(rig, cluster, "hung", lambda: resume.append(hung(cluster)), 20, lambda: resume[0]())
+    fault(rig, cluster, "hung", lambda: resume.append(hung(cluster)), 40, lambda: resume[0]())
 
 
 def unfenced(rig, cluster):
     """The same pause where nodes have no lease: the data of the new holder is overwritten, and the logs are no run."""
     old = Holder(cluster, 3, "old")
-    rig.check("no lease: node 3 holds", "" if old.line(5) == "holds" else "it does not")
+    rig.check("no lease: node 3 holds", "" if old.line(20) == "holds" else "it does not")
     new = Holder(cluster, 2, "new", "once")
     time.sleep(0.2)
     go_on = pause(cluster)
     cluster.declare(3)
-    rig.check("no lease: node 2 has its lock", "" if new.line(15) == "holds" else "it does not")
+    rig.check("no lease: node 2 has its lock", "" if new.line(30) == "holds" else "it does not")
     before = data(cluster)
     go_on()
     time.sleep(0.2)

@@ -15,11 +15,15 @@ import time
 HERE = os.path.dirname(os.path.abspath(__file__))
 ROOT = os.path.dirname(os.path.dirname(HERE))
 ALONE = "NUVNODE_TEST_FOLDER"
-WARM = 20  # seconds that a cluster has to serve
+WARM = 60  # seconds that a cluster has to serve
 PORT = 7400
 
 
-def run_alone(main, seconds):
+LIMIT = 200  # seconds of a test; on a machine that has time for it each takes less than a minute
+CALM = ("--lease", "20000", "--margin", "1000")  # of nodes that no fault is made of: none fences itself where the machine has no time for it
+
+
+def run_alone(main, seconds=LIMIT):
     """Runs `main` in namespaces of its own, for so many seconds at most, and ends with its status. Its folder is taken away by who waits for it."""
     if ALONE in os.environ:
         run_in(main, os.environ[ALONE])
