@@ -42,8 +42,8 @@ static void delivered(cpg_handle_t of, const struct cpg_name *name, uint32_t fro
         take_line((int)from, line);
 }
 
-static void changed(cpg_handle_t of, const struct cpg_name *name, const struct cpg_address *all, size_t count, const struct cpg_address *left, size_t left_count,
-                    const struct cpg_address *joined, size_t joined_count) {
+static void changed(cpg_handle_t of, const struct cpg_name *name, const struct cpg_address *all, size_t count, const struct cpg_address *left,
+                    size_t left_count, const struct cpg_address *joined, size_t joined_count) {
     uint64_t members = 0, died = 0, lost = 0;
     (void)of;
     (void)name;

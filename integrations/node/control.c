@@ -29,7 +29,8 @@ static void tell_status(int descriptor) {
     }
     dprintf(descriptor, "node %d %s %s members %llx formed %llx begun %llx dead %llx files %d servers %d changes %d term %ld\n", settings.me,
             is_serving && lease_holds() ? "serves" : "waits", is_formed ? "knows" : "asks", (unsigned long long)cluster.members,
-            (unsigned long long)cluster.formed, (unsigned long long)cluster.begun, (unsigned long long)cluster.dead, files, servers, cluster.kept, cluster.term);
+            (unsigned long long)cluster.formed, (unsigned long long)cluster.begun, (unsigned long long)cluster.dead, files, servers, cluster.kept,
+            cluster.term);
 }
 
 static void asked(struct source *source, uint32_t events) {

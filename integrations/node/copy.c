@@ -99,7 +99,7 @@ void copy_keep(const struct change *change, int count) {
     seat_tell(members, TOLD_CHANGE, count, "%s %d", change_words[change->kind], change->number);
 }
 
-// The old copy stays until the new one is whole. Its clocks are those of now: the change came to this node just now.
+// The old copy stays until the new one is whole. Its clocks are read now: the change came to this node just now.
 void copy_replace(void) {
     char fresh[512];
     path_of(fresh, sizeof fresh, "members.new");

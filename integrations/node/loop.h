@@ -3,7 +3,7 @@
 #define LOOP_H
 #include <stdint.h>
 
-// Something that is waited for. `ready` is told which events came (those of epoll).
+// Something that is waited for. `ready` is told which events of epoll came.
 struct source {
     int fd;
     void (*ready)(struct source *source, uint32_t events);

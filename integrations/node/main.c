@@ -30,7 +30,9 @@ static const char usage[] =
     "  --cache        the kernel caches pages          --hook COMMAND   is run with a node's number before that is declared\n"
     "For tests alone: --no-lease, --keep-pages (at a grant), --loss PERCENT (of messages; as many come twice).\n";
 
-enum { NODE = 1, NODES, BACKING, FOLDER, PROGRAM, COROSYNC, TCP, KEY, CLUSTER, LEASE, MARGIN, BEAT, GRACE, POLICY, THREADS, CACHE, HOOK, NO_LEASE, KEEP_PAGES, LOSS };
+enum {
+    NODE = 1, NODES, BACKING, FOLDER, PROGRAM, COROSYNC, TCP, KEY, CLUSTER, LEASE, MARGIN, BEAT, GRACE, POLICY, THREADS, CACHE, HOOK, NO_LEASE, KEEP_PAGES, LOSS,
+};
 static const struct option options[] = {
     {"node", 1, NULL, NODE}, {"nodes", 1, NULL, NODES}, {"backing", 1, NULL, BACKING}, {"folder", 1, NULL, FOLDER}, {"program", 1, NULL, PROGRAM},
     {"corosync", 0, NULL, COROSYNC}, {"tcp", 1, NULL, TCP}, {"key", 1, NULL, KEY}, {"cluster", 1, NULL, CLUSTER}, {"lease", 1, NULL, LEASE},

@@ -13,10 +13,12 @@ static const uint32_t rounds[64] = {
 
 static uint32_t turn(uint32_t word, int by) { return word >> by | word << (32 - by); }
 
+static uint32_t word_at(const uint8_t *at) { return (uint32_t)at[0] << 24 | (uint32_t)at[1] << 16 | (uint32_t)at[2] << 8 | at[3]; }
+
 static void take_block(struct digest *digest) {
     uint32_t w[64], s[8];
     for (int k = 0; k < 16; k++)
-        w[k] = (uint32_t)digest->block[4 * k] << 24 | (uint32_t)digest->block[4 * k + 1] << 16 | (uint32_t)digest->block[4 * k + 2] << 8 | digest->block[4 * k + 3];
+        w[k] = word_at(digest->block + 4 * k);
     for (int k = 16; k < 64; k++)
         w[k] = w[k - 16] + w[k - 7] + (turn(w[k - 15], 7) ^ turn(w[k - 15], 18) ^ w[k - 15] >> 3) + (turn(w[k - 2], 17) ^ turn(w[k - 2], 19) ^ w[k - 2] >> 10);
     memcpy(s, digest->state, sizeof s);

@@ -5,8 +5,9 @@ import signal
 import subprocess
 import sys
 import time
+from typing import Callable
 
-from rig import HERE, wait_for
+from rig import HERE, Cluster, Rig, wait_for
 
 HOLDER = os.path.join(HERE, "holder.py")
 STALE = 0.6  # seconds that a node works behind a pause, where nothing stops it
@@ -15,25 +16,25 @@ STALE = 0.6  # seconds that a node works behind a pause, where nothing stops it
 class Holder:
     """A process that holds a lock on a node."""
 
-    def __init__(self, cluster, node, word, *words):
+    def __init__(self, cluster: Cluster, node: int, word: str, *words: str) -> None:
         self.process = subprocess.Popen([sys.executable, HOLDER, cluster.path(node, "file"), word, *words], stdout=subprocess.PIPE, text=True)
 
-    def line(self, seconds):
+    def line(self, seconds: float) -> str:
         """What it says next, or nothing."""
         ready, _, _ = select.select([self.process.stdout], [], [], seconds)
         return self.process.stdout.readline().strip() if ready else ""
 
-    def end(self):
+    def end(self) -> None:
         self.process.kill()
         self.process.wait()
 
 
-def data(cluster):
+def data(cluster: Cluster) -> str:
     with open(os.path.join(cluster.backing, "file"), "rb") as file:
         return file.read(8).decode().strip()
 
 
-def fault(rig, cluster, name, fail, seconds, heal):
+def fault(rig: Rig, cluster: Cluster, name: str, fail: Callable[[], None], seconds: float, heal: Callable[[], None]) -> None:
     """Node 3 holds a lock, and fails; a process of node 2 waits for that lock, gets it once node 3 is declared, and writes. Then node 3 may go on. Its
     process writes nothing more. It begins again."""
     old = Holder(cluster, 3, "old")
@@ -56,24 +57,24 @@ def fault(rig, cluster, name, fail, seconds, heal):
     rig.check(f"{name}: it begins again", "" if cluster.again(3) else cluster.text(3)[-500:])
 
 
-def killed(rig, cluster):
+def killed(rig: Rig, cluster: Cluster) -> None:
     fault(rig, cluster, "killed", lambda: cluster.kill(3), 30, lambda: None)
 
 
-def cut_off(rig, cluster):
-    def fail():
+def cut_off(rig: Rig, cluster: Cluster) -> None:
+    def fail() -> None:
         cluster.net.cut(3)
         rig.check("cut off: it fences itself", "" if wait_for(lambda: not cluster.alive(3), 30, "its daemon ends") else cluster.text(3)[-500:])
 
     fault(rig, cluster, "cut off", fail, 30, lambda: cluster.net.join(3))
 
 
-def pause(cluster):
+def pause(cluster: Cluster) -> Callable[[], None]:
     """Stops a whole machine: what it is sent meanwhile comes a while after it goes on."""
     pids = cluster.stop(3)
     cluster.net.cut(3)
 
-    def go_on():
+    def go_on() -> None:
         for pid in reversed(pids):
             os.kill(pid, signal.SIGCONT)
         time.sleep(STALE)
@@ -82,30 +83,30 @@ def pause(cluster):
     return go_on
 
 
-def stopped(rig, cluster):
+def stopped(rig: Rig, cluster: Cluster) -> None:
     resume = []
     fault(rig, cluster, "stopped", lambda: resume.append(pause(cluster)), 30, lambda: resume[0]())
     said = cluster.text(3)
     rig.check("stopped: it fenced itself", "" if "fences itself" in said else said[-500:])
 
 
-def hung(cluster):
+def hung(cluster: Cluster) -> Callable[[], None]:
     """Stops the daemon and its seats, while its corosync goes on: the others condemn it once it is silent."""
     pids = cluster.stop(3, whole=False)
 
-    def go_on():
+    def go_on() -> None:
         for pid in reversed(pids):
             os.kill(pid, signal.SIGCONT)
 
     return go_on
 
 
-def hangs(rig, cluster):
+def hangs(rig: Rig, cluster: Cluster) -> None:
     resume = []
     fault(rig, cluster, "hung", lambda: resume.append(hung(cluster)), 40, lambda: resume[0]())
 
 
-def unfenced(rig, cluster):
+def unfenced(rig: Rig, cluster: Cluster) -> None:
     """The same pause where nodes have no lease: the data of the new holder is overwritten, and the logs are no run."""
     old = Holder(cluster, 3, "old")
     rig.check("no lease: node 3 holds", "" if old.line(20) == "holds" else "it does not")

@@ -1,6 +1,6 @@
 #!/usr/bin/env python3
 """posix_calls.py A B: prints what record locks do over two paths of one file system; A and B may be the same. What is printed is the same wherever locks
-are those of a local file system: no process number of another node, and times only as soon or late."""
+are as on a local file system: no process number of another node, and times only as soon or late."""
 import errno
 import fcntl
 import os

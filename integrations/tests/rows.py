@@ -4,6 +4,9 @@ import os
 import subprocess
 import threading
 import time
+from typing import Optional
+
+from rig import Cluster, Rig
 
 BATCH = 100
 BUSY = 20000  # milliseconds that sqlite3 tries for a lock
@@ -12,18 +15,18 @@ BUSY = 20000  # milliseconds that sqlite3 tries for a lock
 class Inserter(threading.Thread):
     """Inserts rows of a node until `ends` is set, or so many are told. When its node fails it begins again behind the last row that was told."""
 
-    def __init__(self, cluster, node, ends, most=None):
+    def __init__(self, cluster: Cluster, node: int, ends: threading.Event, most: Optional[int] = None) -> None:
         super().__init__(daemon=True)
         self.cluster, self.node, self.ends, self.most, self.told, self.errors = cluster, node, ends, most, 0, []
 
-    def run(self):
+    def run(self) -> None:
         while not self.ends.is_set() and (self.most is None or self.told < self.most):
             if not os.path.exists(self.cluster.path(self.node, "rows.db")):
                 time.sleep(0.1)
                 continue
             self.insert()
 
-    def insert(self):
+    def insert(self) -> None:
         last = self.told + BATCH if self.most is None else min(self.told + BATCH, self.most)
         rows = range(self.told + 1, last + 1)
         lines = [f"BEGIN IMMEDIATE; INSERT OR IGNORE INTO rows VALUES({self.node},{row}); COMMIT; SELECT {row};" for row in rows]
@@ -40,7 +43,7 @@ class Inserter(threading.Thread):
             time.sleep(0.2)
 
     @staticmethod
-    def feed(process, text):
+    def feed(process: subprocess.Popen, text: str) -> None:
         try:
             process.stdin.write(text)
             process.stdin.close()
@@ -48,7 +51,7 @@ class Inserter(threading.Thread):
             pass
 
 
-def ask(cluster, node, statement):
+def ask(cluster: Cluster, node: int, statement: str) -> str:
     words = ["sqlite3", "-cmd", f".timeout {BUSY}", cluster.path(node, "rows.db"), statement]
     try:
         ran = subprocess.run(words, capture_output=True, text=True, timeout=30, check=False)
@@ -57,11 +60,11 @@ def ask(cluster, node, statement):
     return (ran.stdout + ran.stderr).strip()
 
 
-def create(cluster, node):
+def create(cluster: Cluster, node: int) -> str:
     return ask(cluster, node, "CREATE TABLE rows(node, row, PRIMARY KEY(node, row));")
 
 
-def begin(cluster, most=None):
+def begin(cluster: Cluster, most: Optional[int] = None) -> tuple[list[Inserter], threading.Event]:
     """An inserter on each node, and the event that ends them."""
     ends = threading.Event()
     inserters = [Inserter(cluster, node, ends, most) for node in range(1, cluster.nodes + 1)]
@@ -70,7 +73,7 @@ def begin(cluster, most=None):
     return inserters, ends
 
 
-def judge(rig, cluster, inserters):
+def judge(rig: Rig, cluster: Cluster, inserters: list[Inserter]) -> int:
     """Every row that was told is there, and the database is whole."""
     whole = ask(cluster, 1, "PRAGMA integrity_check;")
     rig.check("sqlite3: the database is whole", "" if whole == "ok" else whole)
