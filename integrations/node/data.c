@@ -12,8 +12,7 @@ static void give_handle(struct fuse_file_info *info, int file, fuse_ino_t node) 
     handle->inode = inode_of(node);
     pthread_mutex_init(&handle->mutex, NULL);
     info->fh = (uintptr_t)handle;
-    info->direct_io = !settings.caches;
-    info->keep_cache = settings.caches;
+    info->direct_io = !settings.caches;         // (pages of before an open are not kept in any case)
 }
 
 static void open_file(fuse_req_t request, fuse_ino_t node, struct fuse_file_info *info) {

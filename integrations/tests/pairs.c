@@ -1,4 +1,5 @@
-// pairs FILE COUNT: so many times locks byte 0, waiting for it, and unlocks it. Prints pairs a second, and a pair's median and 99th hundredth in microseconds.
+// pairs FILE COUNT: so many times locks byte 0, waiting for it, and unlocks it. Prints when it began and ended, in seconds, and the median and the 99th
+// hundredth of a pair's time, in microseconds.
 #define _GNU_SOURCE
 #include <fcntl.h>
 #include <stdio.h>
@@ -39,8 +40,8 @@ int main(int words, char **word) {
         pair(file);
         times[k] = (now() - since) * 1e6;
     }
-    double all = now() - begun;
+    double ended = now();
     qsort(times, (size_t)count, sizeof *times, by_size);
-    printf("%.0f %.1f %.1f\n", count / all, times[count / 2], times[count - 1 - count / 100]);
+    printf("%.6f %.6f %.1f %.1f\n", begun, ended, times[count / 2], times[count - 1 - count / 100]);
     return 0;
 }
