@@ -56,13 +56,14 @@ def run_in(main: Callable[["Rig"], None], room: str) -> None:
 
 
 def wait_for(true: Callable[[], bool], seconds: float, what: str) -> bool:
-    """Waits until it is true; whether it came."""
+    """Waits until it is true; whether it came. It tells what did not come, where that has a name."""
     end = time.monotonic() + seconds
     while time.monotonic() < end:
         if true():
             return True
         time.sleep(0.02)
-    print(f"  not within {seconds} s: {what}")
+    if what:
+        print(f"  not within {seconds} s: {what}")
     return False
 
 
