@@ -14,8 +14,10 @@ bool is_formed, is_serving;
 
 void changes_propose(enum change_kind kind, int number, int host) { view_send("C %d %d %d", kind, number, host); }
 
-// Whether the change is the next one that can come about, by the list so far.
+// Whether the change is the next one that can come about, by the list so far. (The host of a server may have gone since it was chosen.)
 static bool is_next(const struct change *change) {
+    if (change->kind == START_SERVER && (change->host < 1 || change->host > settings.nodes || !(cluster.begun & bit(change->host))))
+        return false;
     bool is_dead = change->kind <= RESTART ? cluster.dead & bit(change->number) : cluster.servers[change->number].dead;
     return is_dead == (change->kind == RESTART || change->kind == START_SERVER);
 }

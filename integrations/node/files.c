@@ -48,6 +48,8 @@ static void give_back(void) {
 
 void files_taken(int from, uint64_t inode) {
     int file = files_number(inode);
+    if (!(cluster.begun & bit(from)))       // (it was declared, and does not know yet)
+        return;
     if (!file) {
         file = spare_number();
         if (!file) {

@@ -2,7 +2,6 @@
 #include "lease.h"
 #include "base.h"
 #include "view.h"
-#include <pthread.h>
 #include <stdatomic.h>
 #include <unistd.h>
 
@@ -18,14 +17,12 @@ static long last_beat;
 static int64_t last_sent;
 static _Atomic int64_t holds_until;
 static _Atomic bool once_held;
-static pthread_t loop_thread;
 void (*lease_is_over)(void);
 
 int64_t lease_time(void) { return (int64_t)settings.lease_ms * MS; }
 
 void lease_beat(void) {
     int64_t time = now();
-    loop_thread = pthread_self();
     if (time - last_sent < (int64_t)settings.beat_ms * MS)
         return;
     last_sent = time;
@@ -64,7 +61,7 @@ bool lease_holds(void) {
 void lease_look(void) {
     if (!once_held || lease_holds())
         return;
-    if (pthread_equal(pthread_self(), loop_thread))
+    if (gettid() == getpid())           // (the loop is the first thread)
         die("the lease is over since %.3f s: fences itself", (double)(now() - holds_until) / 1e9);
     lease_is_over();
     sleep(1);
