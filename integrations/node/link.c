@@ -22,10 +22,7 @@ void link_read_key(void) {
     if (length < 16)
         die("the key %s can't be read, or has less than 16 bytes", settings.key);
     close(file);
-    struct digest digest;
-    digest_begin(&digest);
-    digest_add(&digest, bytes, length);
-    digest_end(&digest, shared.bytes);
+    seal_key_of(bytes, length, &shared);
 }
 
 static void make_nonce(char nonce[NONCE]) {

@@ -20,9 +20,7 @@ pub(crate) fn json_of(all: &Findings<'_>) -> Result<String, AllocError> {
         Found::Judged(outcome, found) => {
             push_text(out, "verdict", outcome.word())?;
             push_key(out, "files", "[")?;
-            for (file, found) in found.iter().enumerate() {
-                push_found(out, all, file, found)?;
-            }
+            push_files(out, all, found)?;
             out.push_str("]")?;
         }
         Found::Ordered(Some(file)) => {
@@ -37,6 +35,14 @@ pub(crate) fn json_of(all: &Findings<'_>) -> Result<String, AllocError> {
     }
     out.push_str("}\n")?;
     Ok(text)
+}
+
+// Adds what was found of the calls of each file.
+fn push_files(out: &mut String, all: &Findings<'_>, found: &[Judged]) -> Result<(), AllocError> {
+    for (file, found) in found.iter().enumerate() {
+        push_found(out, all, file, found)?;
+    }
+    Ok(())
 }
 
 // Adds what was found of the calls of the file with this index: their order, if it is asked for, or those that fit

@@ -23,9 +23,7 @@ pub(crate) fn lines_of(all: &Findings<'_>) -> Result<String, AllocError> {
             let word = outcome.word();
             write!(&mut out, "history {word}")?;
             push_allowed(&mut out, all)?;
-            for (file, found) in found.iter().enumerate() {
-                push_found(&mut out, all, outcome, file, found)?;
-            }
+            push_files(&mut out, all, outcome, found)?;
         }
         Found::Ordered(Some(file)) => {
             let name = file_name(all.history, file);
@@ -40,6 +38,19 @@ pub(crate) fn lines_of(all: &Findings<'_>) -> Result<String, AllocError> {
         push_stats(&mut out, all)?;
     }
     Ok(out)
+}
+
+// Adds what was found of the calls of each file.
+fn push_files(
+    out: &mut String,
+    all: &Findings<'_>,
+    outcome: JudgementOutcome,
+    found: &[Judged],
+) -> Result<(), AllocError> {
+    for (file, found) in found.iter().enumerate() {
+        push_found(out, all, outcome, file, found)?;
+    }
+    Ok(())
 }
 
 // Adds the rules that are allowed, and the end of the line.
