@@ -1,6 +1,7 @@
 -- Lemmas on scripts that go on behind a journal.
 use Rattle.std.proofs.Common.{◌≡◌, ℕ, true, false, List, Option, Some, inl, inr, refl, subst}
-use Rattle.std.specs.Prelude.{Bool, IsUtf8}
+use Rattle.std.specs.Prelude.{◌≢◌, Bool, IsUtf8}
+use Rattle.command_line.specs.rule.Tasks.{run}
 use Rattle.cluster_core.specs.rule.Journals.{JournalFields}
 use Rattle.messages.specs.declared.version.Version.{Version}
 use Rattle.messages.specs.declared.version.Version.TheVariants.{First, Second}
@@ -18,13 +19,13 @@ use Rattle.cluster_core.specs.rule.Runs.{IsRun}
 use Rattle.replay.specs.rule.Audits.{HasNewJournal}
 use Rattle.replay.specs.declared.shown.Shown.{Shown}
 use Rattle.replay.specs.declared.shown.Shown.TheVariants.{Text, Wanting, Partial, Undecided, CutShort, Yes, No}
-use Rattle.replay.specs.rule.Commands.{GoesOn, IsGoingFault, WentOn}
+use Rattle.replay.specs.rule.Commands.{GoesOn, IsFault, WentOn}
 use Rattle.replay.specs.rule.Faults.{IsBehindFault, IsOldFault, IsTextFault, fault_of_parse, fault_of_play}
 use Rattle.player.specs.rule.Played.{FillsBehind, PlayedState}
 use Rattle.replay.specs.rule.Scripts.{HasComparedRun, HasComparedRunBehind, HasRun, HasRunBehind, HasScriptFor}
 use Rattle.replay.specs.rule.Stores.{Files, SameFiles}
 use Rattle.replay.proofs.Journals.{has-journal}
-use Rattle.replay.proofs.Stores.{had-no_text, had-text}
+use Rattle.replay.proofs.Stores.{had-no_text, had-text, same-after}
 
 -- a text that writes a journal of version 1 begins as one
 old-journal : (text : List ℕ) (j : JournalFields) → WritesJournal text j.shape j.entries → j.shape.version ≡ First → IsOld text
@@ -75,11 +76,24 @@ had-compared old new script journal j compares calm telling played same files ha
     let is = subst (λ (k : JournalFields). HasComparedRunBehind (new script) k compares calm played telling) same has in
     (is.0, is.1, had-text old new script _ files is.2, is.3)
 
+-- why a script does not go on behind the run of a journal is a fault of the whole
+is-going : (old new : Files) (RanShort : Type 0) (Refuses : List ℕ → Type 0) (script after : List ℕ) (to : Option (List ℕ)) (compares quiet calm : Bool) (j : JournalFields) (fault : Fault) → HasNewJournal (old after) j → IsRun j.shape j.entries → SameFiles old new
+    → IsBehindFault j (old script) RanShort script fault → (fault ≢ CannotWriteOutput) × IsFault old RanShort Refuses (run script (Some after) to compares quiet calm) new fault
+is-going old new RanShort Refuses script after to compares quiet calm j (BadLine line) has ran same is = (λ e. absurd (cc), (inr (j, has, ran, is), same))
+is-going old new RanShort Refuses script after to compares quiet calm j (CannotRead named reason) has ran same is = (λ e. absurd (cc), (inr (j, has, ran, is), same))
+is-going old new RanShort Refuses script after to compares quiet calm j NoMemory has ran same is = (λ e. absurd (cc), (inr (j, has, ran, is), same))
+is-going old new RanShort Refuses script after to compares quiet calm j JournalFull has ran same is = (λ e. absurd (cc), (inr (j, has, ran, is), same))
+is-going old new RanShort Refuses script after to compares quiet calm j (CannotWrite named reason) has ran same is = absurd is
+is-going old new RanShort Refuses script after to compares quiet calm j CannotWriteOutput has ran same is = absurd is
+is-going old new RanShort Refuses script after to compares quiet calm j OldJournal has ran same is = absurd is
+is-going old new RanShort Refuses script after to compares quiet calm j (Faulty report) has ran same is = absurd is
+
 -- behind the run of the journal
-pub going-fault : (old new : Files) (RanShort : Type 0) (script after : List ℕ) (journal j : JournalFields) (fault : Fault) → HasNewJournal (old after) j → journal ≡ j → IsRun j.shape j.entries → SameFiles old new
-    → IsBehindFault journal (new script) RanShort script fault → IsGoingFault old RanShort script after fault
-going-fault old new RanShort script after journal j fault has same run files is =
-    inr (j, has, run, had-fault old new RanShort script j fault files (subst (λ (k : JournalFields). IsBehindFault k (new script) RanShort script fault) same is))
+pub going-fault : (old begun new : Files) (RanShort : Type 0) (Refuses : List ℕ → Type 0) (script after : List ℕ) (to : Option (List ℕ)) (compares quiet calm : Bool) (journal j : JournalFields) (fault : Fault) → HasNewJournal (old after) j → journal ≡ j → IsRun j.shape j.entries → SameFiles old begun → SameFiles begun new
+    → IsBehindFault journal (begun script) RanShort script fault → (fault ≢ CannotWriteOutput) × IsFault old RanShort Refuses (run script (Some after) to compares quiet calm) new fault
+going-fault old begun new RanShort Refuses script after to compares quiet calm journal j fault has same ran before behind is =
+    is-going old new RanShort Refuses script after to compares quiet calm j fault has ran (same-after old begun new before behind)
+    (had-fault old begun RanShort script j fault before (subst (λ (k : JournalFields). IsBehindFault k (begun script) RanShort script fault) same is))
 
 -- what is shown of the whole run
 pub goes-on : (old new : Files) (script : List ℕ) (j : JournalFields) (to : Option (List ℕ)) (compares quiet calm : Bool) (shown : Shown) → IsRun j.shape j.entries → WentOn old script j to compares quiet calm new shown → GoesOn old script j to compares quiet calm new shown

@@ -14,6 +14,6 @@ returns-clause-kept g c =
 
 pub returns-in_err-committed-clause-fault : goal.returns-in_err-committed-clause-fault
 returns-in_err-committed-clause-fault g c =
-    let p = err_from_is_err_and c.from_residual-in_err-committed.result c.from_residual-in_err-committed.ensures.1 in
+    let p = err_from_is_err_and c.from_residual.result c.from_residual.ensures.1 in
     let holds = g.S.Store.holds in
     rw (p.1, p.2) (unwritten-after (holds c.args.store.now) (holds c.begin-draft.new.self) (holds c.committed.new.store) _ c.args.file.now _ c.begin-draft.ensures.files c.in_err-committed.ensures.fault)

@@ -22,6 +22,6 @@ returns c =
       (history, c.places.ensures.history, c.places.ensures.at_places, refl),
       wrote
           ∙ (ap (λ (items : List Item). string_bytes c.push_str.new.self ++ lines items) same
-          ∙ (ap (λ (bytes : List ℕ). bytes ++ lines history) c.in_ok-push_str.ensures
+          ∙ (ap (λ (bytes : List ℕ). bytes ++ lines history) c.in_ok-push_str.ensures.bytes
           ∙ append_assoc (string_bytes c.args.out.now) (codes "history\n") (lines history))),
     )) c.push_items.ensures

@@ -7,10 +7,10 @@ use Rattle.replay.proofs.run.text_kept.Goals as goal
 
 pub returns-clause-read : goal.returns-clause-read
 returns-clause-read g c =
-    let to = option_map (λ file. file.now) c.args.file.entry in
+    let to = option_map (λ file. file.now) c.args.file in
     subst (IsReadFrom to) c.into_parts-journal.ensures.journal (read-from to _ c.each_journal_is_read.ensures)
 
 pub returns-in_err-text-clause-fault : goal.returns-in_err-text-clause-fault
 returns-in_err-text-clause-fault g c =
-    let p = err_from_is_err_and c.from_residual-in_err-text.result c.from_residual-in_err-text.ensures.1 in
-    rw (p.1, p.2) (unkept-short (g.S.Store.holds c.args.store.now) _ (option_map (λ file. file.now) c.args.file.entry))
+    let p = err_from_is_err_and c.from_residual.result c.from_residual.ensures.1 in
+    rw (p.1, p.2) (unkept-short (g.S.Store.holds c.args.store.now) _ (option_map (λ file. file.now) c.args.file))
