@@ -97,10 +97,10 @@ going-fault old begun new RanShort Refuses script after to compares quiet calm j
 
 -- what is shown of the whole run
 pub goes-on : (old new : Files) (script : List ℕ) (j : JournalFields) (to : Option (List ℕ)) (compares quiet calm : Bool) (shown : Shown) → IsRun j.shape j.entries → WentOn old script j to compares quiet calm new shown → GoesOn old script j to compares quiet calm new shown
-goes-on old new script j to compares quiet calm (Text text) run went = (run, went)
-goes-on old new script j to compares quiet calm (Partial text told) run went = (run, went)
-goes-on old new script j to compares quiet calm (Wanting text) run went = absurd went.3
-goes-on old new script j to compares quiet calm (Undecided text) run went = absurd went.3
-goes-on old new script j to compares quiet calm (CutShort text) run went = absurd went.3
-goes-on old new script j to compares quiet calm Yes run went = absurd went.3
-goes-on old new script j to compares quiet calm (No position) run went = absurd went.3
+goes-on old new script j to compares quiet calm (Text text) ran went = (ran, went)
+goes-on old new script j to compares quiet calm (Partial text told) ran went = (ran, went)
+goes-on old new script j to compares quiet calm (Wanting text) ran went = absurd went.3
+goes-on old new script j to compares quiet calm (Undecided text) ran went = absurd went.3
+goes-on old new script j to compares quiet calm (CutShort text) ran went = absurd went.3
+goes-on old new script j to compares quiet calm Yes ran went = absurd went.3
+goes-on old new script j to compares quiet calm (No position) ran went = absurd went.3

@@ -16,4 +16,4 @@ pub returns-in_err-committed-clause-fault : goal.returns-in_err-committed-clause
 returns-in_err-committed-clause-fault g c =
     let p = err_from_is_err_and c.from_residual.result c.from_residual.ensures.1 in
     let holds = g.S.Store.holds in
-    rw (p.1, p.2) (unwritten-after (holds c.args.store.now) (holds c.begin-draft.new.self) (holds c.committed.new.store) _ c.args.file.now _ c.begin-draft.ensures.files c.in_err-committed.ensures.fault)
+    rw (p.1, p.2) (unwritten-after (holds c.args.store.now) (holds c.begin-draft.new.self) (holds c.committed.new.store) (g.S.Store.refuses c.committed.new.store) c.args.file.now _ c.begin-draft.ensures.files c.in_err-committed.ensures.fault)

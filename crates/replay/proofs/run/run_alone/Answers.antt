@@ -19,4 +19,4 @@ returns-in_err-text-clause-fault g c =
     let came = c.in_ok-played.ensures.run in
     let has = uncompared (holds c.args.store.now c.args.path.now) c.args.wanted.expect c.args.wanted.calm came.0 _ came.1 in
     let task = run c.args.path.now None (option_map (λ file. file.now) c.args.journal) c.args.wanted.expect c.args.wanted.quiet c.args.wanted.calm in
-    rw (p.1, p.2) (unkept-fault (holds c.args.store.now) (holds c.run_of.new.store) (holds c.text_kept.new.store) _ _ task _ _ c.run_of.ensures.files refl has (inr (has.1.0, has.1.1)) c.in_err-text.ensures.fault)
+    rw (p.1, p.2) (unkept-fault (holds c.args.store.now) (holds c.run_of.new.store) (holds c.text_kept.new.store) (g.S.Store.ran_short c.text_kept.new.store) (g.S.Store.refuses c.text_kept.new.store) task _ _ c.run_of.ensures.files refl has (inr (has.1.0, has.1.1)) c.in_err-text.ensures.fault)

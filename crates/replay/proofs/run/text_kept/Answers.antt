@@ -13,4 +13,4 @@ returns-clause-read g c =
 pub returns-in_err-text-clause-fault : goal.returns-in_err-text-clause-fault
 returns-in_err-text-clause-fault g c =
     let p = err_from_is_err_and c.from_residual.result c.from_residual.ensures.1 in
-    rw (p.1, p.2) (unkept-short (g.S.Store.holds c.args.store.now) _ (option_map (λ file. file.now) c.args.file))
+    rw (p.1, p.2) (unkept-short (g.S.Store.holds c.args.store.now) (g.S.Store.refuses c.args.store.now) (option_map (λ file. file.now) c.args.file))

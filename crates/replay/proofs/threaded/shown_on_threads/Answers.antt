@@ -7,7 +7,7 @@ pub returns : goal.returns
 returns c =
     let journal = c.args.run.journal in
     let text = journal_text journal.shape journal.entries in (
-      record { listing = string_bytes c.in_ok-listing.listing; journal = text; answered = length c.args.run.receipts; held = c.held_in-held.result; stuck = string_bytes c.in_ok-stuck.stuck; may_go_on = c.in_ok-may_go_on.may_go_on },
+      record { listing = string_bytes c.in_ok-listing.listing; journal = text; answered = length c.receipts-receipts.result.now; held = c.held_in-held.result; stuck = string_bytes c.in_ok-stuck.stuck; may_go_on = c.in_ok-may_go_on.may_go_on },
       record {
         world = world_state c.args.world;
         leads = c.requires.leads;

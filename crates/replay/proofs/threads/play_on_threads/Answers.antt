@@ -21,4 +21,4 @@ returns-in_err-keep_journal-clause-fault g c =
     let taken = c.in_ok-shown.ensures.taken in
     let to = option_map (λ file. file.now) c.args.journal in
     let task = threads c.args.path.now c.args.seed c.args.manner.may_stop c.args.manner.no_join to in
-    rw (p.1, p.2) (unkept-fault (holds c.args.store.now) (holds c.threaded_of.new.store) (holds c.keep_journal.new.store) _ _ task to _ c.threaded_of.ensures.files refl taken (inr taken) c.in_err-keep_journal.ensures.fault)
+    rw (p.1, p.2) (unkept-fault (holds c.args.store.now) (holds c.threaded_of.new.store) (holds c.keep_journal.new.store) (g.S.Store.ran_short c.keep_journal.new.store) (g.S.Store.refuses c.keep_journal.new.store) task to _ c.threaded_of.ensures.files refl taken (inr taken) c.in_err-keep_journal.ensures.fault)
