@@ -1,3 +1,4 @@
 mod Additions
 mod Playings
+mod Talks
 mod Transcribed

@@ -5,9 +5,10 @@ ghost use Rattle.lockscript.specs.rule.Scripts.{IsScriptShape, shape_text};
 ghost use Rattle.player.specs.code.Parts.{progress};
 ghost use Rattle.player.specs.rule.Progress.{first_progress};
 ghost use Rattle.line_play.specs.declared.played_lines.Stop.TheVariants.{NoMemory};
-ghost use Rattle.line_play.specs.rule.Answers.{PlaysTo, Says, first_answer, first_stage};
+ghost use Rattle.line_play.specs.code.Parts.{stage_of};
+ghost use Rattle.line_play.specs.rule.Answers.{PlaysTo, first_answer, first_stage};
 ghost use Rattle.line_play.specs.rule.Playing.{PlaysLines};
-ghost use Rattle.line_play.specs.rule.Stops.{StopsAt, StopsBegin, StopsRun, stop_of};
+ghost use Rattle.line_play.specs.rule.Stops.{StopsBegin, StopsRun, stop_of};
 
 use crate::answers::{push_answer, push_first};
 use lockscript::cluster_line::shape_of;
@@ -54,6 +55,7 @@ impl From<PlayError> for Stop {
 
 /// Plays the lines that are read, and writes the answer of each before the next one is read. What stands behind the last
 /// line feed is no line, and a line of more than 67,108,864 bytes is a bad one. Tells why that ended.
+#[tactic(auto, using(crate::proofs::Talks::plays_lines))]
 pub fn play_lines<R: Read, W: Write>(alloc: Global, reader: &mut R, out: &mut W) -> TalkEnd<Stop>
     ensures { PlaysLines result (R.remaining reader.old) (R.remaining reader.new) (W.contents out.old) (W.contents out.new) }
 {
@@ -71,19 +73,17 @@ pub struct PlayedLines {
 }
 
 impl Model for PlayedLines {
-    ghost use Rattle.std.specs.Prelude.{option_map};
-    ghost use Rattle.player.specs.code.Parts.{progress};
-    ghost use Rattle.line_play.specs.rule.Answers.{Stage};
+    ghost use Rattle.line_play.specs.code.Parts.{PlayedParts};
 
-    ghost Value = { Stage };
+    ghost Value = { PlayedParts };
 
-    ghost view = { λ p. record { lines = p.lines; run = option_map progress p.player } };
+    ghost view = { λ p. record { lines = p.lines; player = p.player } };
 }
 
 impl PlayedLines {
     /// Before any line.
     pub fn new(alloc: Global) -> PlayedLines
-        ensures { result ≡ first_stage }
+        ensures { stage_of result ≡ first_stage }
     {
         PlayedLines {
             alloc,
@@ -105,9 +105,11 @@ impl PlayedLines {
 impl Answerer for PlayedLines {
     type Stop = Stop;
 
-    ghost says = { Says };
+    ghost use Rattle.line_play.specs.code.Parts.{PartsSay, PartsStop};
 
-    ghost stops = { StopsAt };
+    ghost says = { PartsSay };
+
+    ghost stops = { PartsStop };
 
     fn answer(&mut self, line: &[u8], out: &mut String) -> Result<(), Stop> {
         let number = self.next_number()?;
