@@ -1,6 +1,7 @@
-use Rattle.std.proofs.Common.{ℕ, List, None, inl, inr, refl, subst}
+use Rattle.std.proofs.Common.{◌∙◌, ℕ, List, None, ap, inl, inr, refl, subst, true}
 use Rattle.std.proofs.lemmas.Result.{on_ok_weaker}
-use Rattle.seat_commands.specs.rule.Registers.{IsColumnOf, IsInquiryOf}
+use Rattle.seat_text.specs.rule.Columns.{column_of}
+use Rattle.seat_commands.specs.rule.Registers.{IsInquiryOf}
 use Rattle.seat_commands.proofs.Registers.{passes_over}
 use Rattle.seat_commands.proofs.register.RegisterAnswerer.answer.Goals as goal
 
@@ -17,6 +18,6 @@ returns-in-None g c =
       short = c.requires;
       is_text = text.1;
       nothing = subst (λ (t : List ℕ). IsInquiryOf t None) text.0 c.in-None.ensures;
-      column_is = subst (λ (t : List ℕ). IsColumnOf t c.bad_column.result) text.0 c.bad_column.ensures;
+      column_is = c.bad_column.ensures ∙ ap (column_of true) text.0;
     }))))
     c.push_bad-in-None.ensures
