@@ -8,7 +8,7 @@ from typing import Optional
 
 from rig import Cluster, Rig
 
-BATCH = 100
+BATCH = 20
 BUSY = 20000  # milliseconds that sqlite3 tries for a lock
 
 
