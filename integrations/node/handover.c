@@ -79,7 +79,8 @@ static void answer(struct lock_call *call, int error, const struct flock *found)
     free(call);
 }
 
-// A call is handed over before its interrupt is: `order` is held from when its interrupts are asked for until it is handed over.
+// A call is handed over before its interrupt is: `order` is held from when its interrupts are asked for until it is handed over. (libfuse holds a request's
+// own mutex both as it asks and as it interrupts. That is no cycle: it interrupts only a request whose asking is done with that mutex.)
 static pthread_mutex_t order = PTHREAD_MUTEX_INITIALIZER;
 static _Thread_local struct lock_call *asks;
 
