@@ -2,6 +2,8 @@
 //! crate knows nothing of command lines, or of files on a disk.
 #![tactic(auto)]
 
+pub mod answering;
 mod answers;
 pub mod laws;
 pub mod played_lines;
+pub mod stop;

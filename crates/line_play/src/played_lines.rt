@@ -1,68 +1,25 @@
 //! A script that is played line by line.
-ghost use Rattle.std.specs.Prelude.{◌≡◌, ◌≤◌, ◌+◌, ◌++◌, ℕ, List, IfErr, IfOk, OnOk, drop, length, string_bytes};
+ghost use Rattle.std.specs.Prelude.{◌≡◌, ◌≤◌, ◌<◌, ◌+◌, ◌++◌, ℕ, List, IfErr, IfOk, OnOk, drop, length, string_bytes};
 ghost use Rattle.messages.specs.rule.Shapes.{ShapeFields};
 ghost use Rattle.lockscript.specs.rule.Scripts.{IsScriptShape, shape_text};
 ghost use Rattle.player.specs.code.Parts.{progress};
 ghost use Rattle.player.specs.rule.Progress.{first_progress};
-ghost use Rattle.line_play.specs.declared.played_lines.Stop.TheVariants.{NoMemory};
+ghost use Rattle.talks.specs.Talks.{longest_line};
 ghost use Rattle.line_play.specs.code.Parts.{stage_of};
-ghost use Rattle.line_play.specs.rule.Answers.{PlaysTo, first_answer, first_stage};
-ghost use Rattle.line_play.specs.rule.Playing.{PlaysLines};
-ghost use Rattle.line_play.specs.rule.Stops.{StopsBegin, StopsRun, stop_of};
+ghost use Rattle.line_play.specs.declared.stop.Stop.TheVariants.{NoMemory};
+ghost use Rattle.line_play.specs.rule.Answers.{PlaysTo, Says, first_answer, first_stage};
+ghost use Rattle.line_play.specs.rule.Stops.{StopsAt, StopsBegin, StopsRun};
 
 use crate::answers::{push_answer, push_first};
+use crate::stop::Stop;
 use lockscript::cluster_line::shape_of;
 use lockscript::commands::command_of;
 use lockscript::lines::is_skipped;
-use lockscript::play_error::PlayError;
 use lockscript::refused_line::RefusedLine;
 use player::player::Player;
-use seat_text::talk::{Answerer, TalkEnd, talk};
-use std::alloc::{AllocError, Global};
-use std::io::{Read, Write};
+use std::alloc::Global;
 use std::marker::Model;
-use std::{io, str};
-
-/// A reason for which lines are played no further.
-#[derive(Clone, Copy, Debug, PartialEq, Eq)]
-pub enum Stop {
-    /// The line of this number, from 1, may not stand where it does.
-    BadLine(u64),
-    /// The line needs more entries than a journal may have.
-    JournalFull,
-    /// A request for memory was refused.
-    NoMemory,
-}
-
-impl From<AllocError> for Stop {
-    ghost from_gives = { λ error made. made ≡ NoMemory };
-
-    fn from(_error: AllocError) -> Stop {
-        Stop::NoMemory
-    }
-}
-
-impl From<PlayError> for Stop {
-    ghost from_gives = { λ error made. made ≡ stop_of error };
-
-    fn from(error: PlayError) -> Stop {
-        match error {
-            PlayError::NoMemory => Stop::NoMemory,
-            PlayError::JournalFull => Stop::JournalFull,
-        }
-    }
-}
-
-/// Plays the lines that are read, and writes the answer of each before the next one is read. What stands behind the last
-/// line feed is no line, and a line of more than 67,108,864 bytes is a bad one. Tells why that ended.
-#[tactic(auto, using(crate::proofs::Talks::plays_lines))]
-pub fn play_lines<R: Read, W: Write>(alloc: Global, reader: &mut R, out: &mut W) -> TalkEnd<Stop>
-    ensures { PlaysLines result (R.remaining reader.old) (R.remaining reader.new) (W.contents out.old) (W.contents out.new) }
-{
-    let mut played = PlayedLines::new(alloc);
-    let mut log = io::sink();
-    talk(alloc, &mut played, reader, &mut log, out)
-}
+use std::str;
 
 /// A script as far as it was played: how many lines came, and where their run stands, once the cluster line came.
 #[derive(Drop)]
@@ -99,19 +56,26 @@ impl PlayedLines {
     {
         self.lines.checked_add(1).ok_or(Stop::NoMemory)
     }
-}
 
-/// It adds the answer of each line. After an error it can't be used any more.
-impl Answerer for PlayedLines {
-    type Stop = Stop;
+    /// Why a line of more than 67,108,864 bytes is not played.
+    pub fn too_long(&self) -> Stop
+        ensures { (line : List ℕ) → longest_line < length line → StopsAt (stage_of self.now) line result }
+    {
+        match self.next_number() {
+            Ok(number) => Stop::BadLine(number),
+            Err(stop) => stop,
+        }
+    }
 
-    ghost use Rattle.line_play.specs.code.Parts.{PartsSay, PartsStop};
-
-    ghost says = { PartsSay };
-
-    ghost stops = { PartsStop };
-
-    fn answer(&mut self, line: &[u8], out: &mut String) -> Result<(), Stop> {
+    /// Plays the next line, which has no line feed, and adds its answer. After an error it can't be used any more.
+    ///
+    /// # Errors
+    /// `BadLine` where the line may not stand there; `JournalFull` where it needs more entries than a journal may have;
+    /// `NoMemory` where a request for memory was refused, or lines are too many to be counted.
+    pub fn take(&mut self, line: &[u8], out: &mut String) -> Result<(), Stop>
+        ensures said { OnOk result ((said : List ℕ) × Says (stage_of self.old) line.now said (stage_of self.new) × (string_bytes out.new ≡ string_bytes out.old ++ said)) }
+        ensures stopped { IfErr result (StopsAt (stage_of self.old) line.now) }
+    {
         let number = self.next_number()?;
         let Ok(text) = str::from_utf8(line) else {
             return Err(Stop::BadLine(number));
@@ -127,11 +91,6 @@ impl Answerer for PlayedLines {
                 Ok(())
             }
         }
-    }
-
-    fn answer_long(&mut self, _out: &mut String) -> Result<(), Stop> {
-        let long = self.next_number()?;
-        Err(Stop::BadLine(long))
     }
 }
 

@@ -10,7 +10,7 @@ use Rattle.command_line.specs.declared.refusal.Refusal.{Refusal}
 use Rattle.command_line.specs.declared.refusal.Refusal.TheVariants.{Help, Wrong, NotText, NoMemory}
 use Rattle.command_line.specs.rule.Kinds.{IsOfKind}
 use Rattle.command_line.specs.rule.Words.{IsShown}
-use Rattle.seat_commands.specs.declared.lines.Asked.{Asked}
+use Rattle.seat_commands.specs.declared.words.Asked.{Asked}
 use Rattle.seat_commands.specs.rule.Asking.{IsKindOf, IsMet, IsNamed, IsRefusal, name_of}
 use Rattle.seat_commands.specs.rule.Table.{Choice, IsTable, bare_app, chosen, kind_rule, members_app, merge_app, play_app, policy_rule, seat_app}
 

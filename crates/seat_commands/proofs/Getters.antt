@@ -2,8 +2,8 @@
 use Rattle.std.proofs.Common.{◌≡◌, Bor, List, Option, Some, None, IfSome, map, option_map, codes, sym, ap, ◌∙◌, ℕ}
 use Rattle.clap.specs.declared.parser.matches.Found.{Found}
 use Rattle.clap.specs.Words.{first_value, matched_of, raw_values}
-use Rattle.seat_commands.specs.declared.lines.Asked.{Asked}
-use Rattle.seat_commands.specs.declared.lines.Asked.TheVariants.{Seat, Members, Merge, Play}
+use Rattle.seat_commands.specs.declared.words.Asked.{Asked}
+use Rattle.seat_commands.specs.declared.words.Asked.TheVariants.{Seat, Members, Merge, Play}
 use Rattle.seat_commands.specs.rule.Asking.{IsNamed}
 use Rattle.seat_commands.specs.rule.Lines.{HasLogs, IsServedAsked}
 

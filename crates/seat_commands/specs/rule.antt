@@ -1,13 +1,7 @@
-pub mod Changes
-pub mod ListFiles
-pub mod Registers
-pub mod SeatTalks
-pub mod Lines
-pub mod Table
 pub mod Asking
+pub mod Doings
+pub mod Keeping
+pub mod Lines
 pub mod Names
 pub mod Statuses
-pub mod Keeping
-pub mod Merging
-pub mod Ending
-pub mod Doings
+pub mod Table

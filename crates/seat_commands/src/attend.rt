@@ -1,30 +1,37 @@
 //! The commands as functions of their words.
-ghost use Rattle.std.specs.Prelude.{◌≡◌, ℕ, List, Option, IfOk, IfSome, None, OnErr, map, option_map, is_some, slice_get};
+ghost use Rattle.std.specs.Prelude.{◌≡◌, ◌⊎◌, ℕ, List, Option, IfOk, IfSome, None, OnErr, map, option_map, is_some, slice_get};
+ghost use Rattle.std.specs.Io.Buffered.{reader_remaining};
+ghost use Rattle.talks.specs.declared.talk.TalkEnd.TheVariants.{NoMemory};
 ghost use Rattle.replay.specs.rule.Statuses.{status_of};
+ghost use Rattle.seat_keeping.specs.rule.SeatTalks.{IsIn, TalksFor};
 ghost use Rattle.line_play.specs.rule.Playing.{PlaysLines};
 ghost use Rattle.seat_commands.specs.rule.Doings.{Attends, DoesSo};
+ghost use Rattle.seat_commands.specs.rule.Keeping.{HasSeat, KeepsList};
 ghost use Rattle.seat_commands.specs.rule.Lines.{IsServedAsked};
 ghost use Rattle.seat_commands.specs.rule.Names.{is_help, is_help_if, is_name, is_name_if, is_of_command};
-ghost use Rattle.seat_commands.specs.rule.Statuses.{end_status, stop_status};
+ghost use Rattle.seat_commands.specs.rule.Statuses.{end_status, play_status};
 
-use crate::files::{buffered, why_not};
-use crate::lines::Asked;
-use crate::members::keep_members;
-use crate::merge_command::merge_command;
-use crate::register::Unlisted;
-use crate::seat::seated;
-use crate::words::asked_by;
-use line_play::played_lines::{Stop, play_lines};
+use crate::actor_line::ActorLine;
+use crate::added_file::open_added;
+use crate::members_command::{ListFault, keep_members};
+use crate::members_line::MembersLine;
+use crate::words::{Asked, asked_by};
+use line_play::answering::{PlayEnd, play_lines};
+use line_play::stop::Stop;
+use merging::merge_command::merge_command;
 use replay::fault::Fault;
 use replay::output::Output;
 use replay::respond::refuse;
 use replay::store::Store;
-use seat_text::talk::TalkEnd;
+use seat_keeping::appointment::Appointment;
+use seat_keeping::seat::have_seat;
 use std::alloc::{AllocError, Global};
 use std::convert::AsStr;
-use std::io::{Read, Write};
+use std::io;
+use std::io::{BufReader, Read, Write};
 use std::rt::Files;
 use std::time::Clock;
+use talks::talk::TalkEnd;
 
 /// Does what the words ask for, the first of them being the program's name, where the second is `seat`, `members`,
 /// `merge` or `play`, or `help` before one of these, and answers the exit status; else it does nothing.
@@ -112,21 +119,109 @@ fn done<R: Files + Clock, I: Read + Drop, S: Store, O: Write, E: Write>(
         (I.remaining input) (O.contents out.old) (O.contents out.new) line.now result }
 {
     match line {
-        Asked::Seat(line) => match seated(rt, alloc, line, input, store, out) {
+        Asked::Seat(line) => match seated_by(rt, alloc, line, input, store, out) {
             Ok(end) => told_end(end, line.log, err),
-            Err(fault) => told(&fault, err),
+            Err(fault) => told(&fault.fault(alloc, line.log.unwrap_or("")), err),
         },
-        Asked::Members(line) => match keep_members(rt, alloc, line, input, store, out) {
-            Ok(TalkEnd::Stopped(Unlisted::Unkept)) => told(&why_not(store, line.state), err),
+        Asked::Members(line) => match kept_by(rt, alloc, line, input, store, out) {
             Ok(end) => told_end(end, None, err),
-            Err(fault) => told(&fault, err),
+            Err(fault) => told(&fault.fault(alloc, line.state), err),
         },
         Asked::Merge(line) => merge_command(alloc, store, line, out, err),
         Asked::Play => match played_by(alloc, input, out) {
-            Ok(TalkEnd::Stopped(stop)) => told(&fault_of(stop), err),
-            Ok(end) => told_end(end, None, err),
+            Ok(end) => told_play(end, err),
             Err(_) => told(&Fault::NoMemory, err),
         },
+    }
+}
+
+// The input, of which more is read at once than is asked for.
+fn buffered<I: Read + Drop>(alloc: Global, input: I) -> Result<BufReader<I>, AllocError>
+    ensures { IfOk result (λ reader. reader_remaining I.remaining reader ≡ I.remaining input) }
+{
+    match BufReader::new(alloc, input) {
+        Ok(reader) => Ok(reader),
+        Err(_) => Err(AllocError),
+    }
+}
+
+// Keeps the list of the line, as the input asks.
+fn kept_by<R: Files + Clock, I: Read + Drop, S: Store, O: Write>(
+    rt: &R,
+    alloc: Global,
+    line: &MembersLine<'_>,
+    input: I,
+    store: &mut S,
+    out: &mut O,
+) -> Result<TalkEnd, ListFault>
+    ensures kept { IfOk result (λ end. (left : Option (List ℕ)) × KeepsList R.File.contents R.File.remaining line.now end (I.remaining input) left
+        (O.contents out.old) (O.contents out.new)) }
+    ensures failed { OnErr result ((out.new ≡ out.old) ⊎ ((left : Option (List ℕ)) × KeepsList R.File.contents R.File.remaining line.now NoMemory
+        (I.remaining input) left (O.contents out.old) (O.contents out.new))) }
+{
+    let mut reader = buffered(alloc, input)?;
+    keep_members(rt, alloc, line, &mut reader, store, out)
+}
+
+// Has the seat of the line's actor, as the input tells it.
+fn seated_by<R: Files + Clock, I: Read + Drop, S: Store, O: Write>(
+    rt: &R,
+    alloc: Global,
+    line: &ActorLine<'_>,
+    input: I,
+    store: &mut S,
+    out: &mut O,
+) -> Result<TalkEnd, ListFault>
+    requires { IsIn line.now.appointment.shape line.now.appointment.actor }
+    ensures talks { IfOk result (λ end. (left : Option (List ℕ)) × HasSeat R.File.contents line.now end (I.remaining input) left
+        (O.contents out.old) (O.contents out.new)) }
+    ensures untouched { OnErr result (out.new ≡ out.old) }
+{
+    let mut reader = buffered(alloc, input)?;
+    seated(rt, alloc, line, &mut reader, store, out)
+}
+
+// Has the seat of the line's actor, with its log.
+fn seated<R: Files + Clock, I: Read, S: Store, O: Write>(
+    rt: &R,
+    alloc: Global,
+    line: &ActorLine<'_>,
+    reader: &mut I,
+    store: &mut S,
+    out: &mut O,
+) -> Result<TalkEnd, ListFault>
+    requires { IsIn line.now.appointment.shape line.now.appointment.actor }
+    ensures talks { IfOk result (λ end. HasSeat R.File.contents line.now end (I.remaining reader.old) (I.remaining reader.new)
+        (O.contents out.old) (O.contents out.new)) }
+    ensures untouched { OnErr result ((reader.new ≡ reader.old) × (out.new ≡ out.old)) }
+{
+    match line.log {
+        Some(path) => {
+            let log = open_added(rt, store, path)?;
+            logged(rt, alloc, &line.appointment, reader, log, out)
+        }
+        None => logged(rt, alloc, &line.appointment, reader, io::sink(), out),
+    }
+}
+
+// Has the seat, with this log.
+fn logged<R: Clock, I: Read, L: Write + Drop, O: Write>(
+    rt: &R,
+    alloc: Global,
+    appointment: &Appointment,
+    reader: &mut I,
+    log: L,
+    out: &mut O,
+) -> Result<TalkEnd, ListFault>
+    requires { IsIn appointment.now.shape appointment.now.actor }
+    ensures talks { IfOk result (λ end. (after : L) × TalksFor appointment.now appointment.now.actor end (I.remaining reader.old) (I.remaining reader.new)
+        (L.contents log) (L.contents after) (O.contents out.old) (O.contents out.new)) }
+    ensures untouched { OnErr result ((reader.new ≡ reader.old) × (out.new ≡ out.old)) }
+{
+    let mut log = log;
+    match have_seat(rt, alloc, appointment, reader, &mut log, out) {
+        Ok(end) => Ok(end),
+        Err(_) => Err(ListFault::NoMemory),
     }
 }
 
@@ -135,23 +230,12 @@ fn played_by<I: Read + Drop, O: Write>(
     alloc: Global,
     input: I,
     out: &mut O,
-) -> Result<TalkEnd<Stop>, AllocError>
+) -> Result<PlayEnd, AllocError>
     ensures plays { IfOk result (λ end. (left : Option (List ℕ)) × PlaysLines end (I.remaining input) left (O.contents out.old) (O.contents out.new)) }
     ensures untouched { OnErr result (out.new ≡ out.old) }
 {
     let mut reader = buffered(alloc, input)?;
     Ok(play_lines(alloc, &mut reader, out))
-}
-
-// Why lines are played no further.
-fn fault_of<'a>(stop: Stop) -> Fault<'a>
-    ensures { status_of result ≡ stop_status stop }
-{
-    match stop {
-        Stop::BadLine(number) => Fault::BadLine(number),
-        Stop::JournalFull => Fault::JournalFull,
-        Stop::NoMemory => Fault::NoMemory,
-    }
 }
 
 // Writes why a command was not done, and answers its exit status.
@@ -163,17 +247,29 @@ fn told<E: Output>(fault: &Fault<'_>, err: &mut E) -> u8
 }
 
 // Writes why a talk ended, unless that is the end of the input, and answers the exit status. Its log has this path.
-fn told_end<F: Drop, E: Output>(end: TalkEnd<F>, log: Option<&str>, err: &mut E) -> u8
+fn told_end<E: Output>(end: TalkEnd, log: Option<&str>, err: &mut E) -> u8
     ensures { result ≡ end_status end }
 {
     match end {
         TalkEnd::AtEnd => 0,
-        TalkEnd::Stopped(_) => told(&Fault::NoMemory, err),
+        TalkEnd::NoMemory => told(&Fault::NoMemory, err),
         TalkEnd::CannotRead => {
             let _ = err.put(b"cannot read standard input\n");
             3
         }
         TalkEnd::CannotWrite => told_unwritten(log, err),
+    }
+}
+
+// Writes why lines were played no further, unless that is the end of the input, and answers the exit status.
+fn told_play<E: Output>(end: PlayEnd, err: &mut E) -> u8
+    ensures { result ≡ play_status end }
+{
+    match end {
+        PlayEnd::Talk(end) => told_end(end, None, err),
+        PlayEnd::Line(Stop::BadLine(number)) => told(&Fault::BadLine(number), err),
+        PlayEnd::Line(Stop::JournalFull) => told(&Fault::JournalFull, err),
+        PlayEnd::Line(Stop::NoMemory) => told(&Fault::NoMemory, err),
     }
 }
 

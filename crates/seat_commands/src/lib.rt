@@ -1,15 +1,11 @@
-//! The commands `seat`, `members`, `merge` and `play` of the program: their words, and their files. It knows no rule of a node or a
-//! token server.
+//! The commands `seat`, `members` and `merge` of the program: their words, and their files.
 #![tactic(auto)]
 
+mod actor_line;
+mod added_file;
 pub mod attend;
-mod files;
 mod help;
-mod lines;
-mod members;
-mod merge_command;
-mod merging;
-mod register;
-mod seat;
+mod members_command;
+mod members_line;
 mod table;
 mod words;

@@ -1,13 +1,12 @@
 //! The table of the commands.
-ghost use Rattle.std.specs.Prelude.{◌≡◌, codes, IfOk};
-ghost use Rattle.clap.specs.Words.{app_of, rule_of};
-ghost use Rattle.command_line.specs.rule.Program.{paths_rule};
-ghost use Rattle.seat_commands.specs.rule.Table.{IsChosen, IsSeatApp, IsTable, bare_app, clock_rule, files_rule, kind_rule, kinds, members_app, merge_app, needed_rule, nodes_rule, number_argument_rule, past_rule, play_app, policies, policy_rule, skew_rule};
+ghost use Rattle.std.specs.Prelude.{◌≡◌, codes, true, IfOk};
+ghost use Rattle.clap.specs.Words.{app_of, new_app, rule_of, with_rule, with_subcommand};
+ghost use Rattle.command_line.specs.rule.Program.{flag_rule, number_rule, option_rule, path_rule, paths_rule};
+ghost use Rattle.seat_commands.specs.rule.Table.{IsChosen, IsSeatApp, IsTable, bare_app, between, clock_rule, files_rule, kind_rule, kinds, members_app, merge_app, needed_rule, nodes_rule, number_argument_rule, past_rule, play_app, policies, policy_rule, skew_rule};
 
 use crate::help::{MEMBERS_NOTES, MERGE_NOTES, PLAY_NOTES, SEAT_NOTES};
 use clap::builder::ValueParser;
 use clap::{Arg, ArgAction, Command};
-use command_line::table::{bare_command, flag, option, with_argument, with_command};
 use std::alloc::{AllocError, Global};
 
 // The kinds of actors.
@@ -37,6 +36,31 @@ fn bare_program<'a>(alloc: Global) -> Command<'a>
     ensures { app_of result ≡ bare_app }
 {
     Command::new(alloc, "lockreplay").subcommand_required(true)
+}
+
+// The program with one command more.
+fn with_command<'a>(program: Command<'a>, command: Command<'a>) -> Result<Command<'a>, AllocError>
+    requires { (app_of command).top.is_plain ≡ true }
+    ensures { IfOk result (λ r. app_of r ≡ with_subcommand (app_of program.entry) (app_of command.entry).top) }
+{
+    program.subcommand(command)
+}
+
+// A command without arguments, with what its help says.
+fn bare_command<'a>(alloc: Global, name: &'a str, about: &'a str, notes: &'a str) -> Command<'a>
+    ensures { app_of result ≡ new_app name.entry.now }
+{
+    Command::new(alloc, name)
+        .about(about)
+        .after_long_help(notes)
+}
+
+// The command with one argument more.
+fn with_argument<'a>(command: Command<'a>, argument: Arg<'a>) -> Result<Command<'a>, AllocError>
+    requires { (rule_of argument).is_simple ≡ true }
+    ensures { IfOk result (λ r. app_of r ≡ with_rule (app_of command.entry) (rule_of argument.entry)) }
+{
+    command.arg(argument)
 }
 
 fn seat_command<'a>(alloc: Global) -> Result<Command<'a>, AllocError>
@@ -180,4 +204,16 @@ fn needed<'a>(alloc: Global, id: &'a str, long: &'a str, help: &'a str) -> Arg<'
     ensures { rule_of result ≡ needed_rule id.entry.now long.entry.now }
 {
     option(alloc, id, long, help).required(true)
+}
+
+fn option<'a>(alloc: Global, id: &'a str, long: &'a str, help: &'a str) -> Arg<'a>
+    ensures { rule_of result ≡ option_rule id.entry.now long.entry.now }
+{
+    Arg::new(alloc, id).long(long).help(help)
+}
+
+fn flag<'a>(alloc: Global, name: &'a str, help: &'a str) -> Arg<'a>
+    ensures { rule_of result ≡ flag_rule name.entry.now }
+{
+    option(alloc, name, name, help).action(ArgAction::SetTrue)
 }

@@ -3,20 +3,22 @@ ghost use Rattle.std.specs.Prelude.{◌≡◌, ◌≤◌, ◌⊎◌, codes, deci
 ghost use Rattle.clap.specs.Words.{app_of, first_value, found_of, kind_of, one_text, subcommand_rows_of};
 ghost use Rattle.clap.specs.declared.error.kind.ErrorKind.TheVariants.{OutOfMemory, ValueValidation};
 ghost use Rattle.texts.specs.rule.Words.{policy_text};
-ghost use Rattle.seat_commands.specs.rule.SeatTalks.{IsIn};
+ghost use Rattle.seat_keeping.specs.rule.SeatTalks.{IsIn};
 ghost use Rattle.seat_commands.specs.rule.Asking.{AsksFor, IsKindOf, IsMet, IsNamed, IsRefusal};
 ghost use Rattle.seat_commands.specs.rule.Lines.{HasActor, HasFlag, HasLogs, HasShape, IsServedAsked};
 ghost use Rattle.seat_commands.specs.rule.Table.{IsTable};
 
-use crate::lines::{ActorLine, Asked, MembersLine, MergeLine};
+use crate::actor_line::ActorLine;
+use crate::members_line::MembersLine;
 use crate::table::program;
 use clap::error::ErrorKind;
 use clap::{ArgMatches, Command, Error};
 use command_line::refusal::Refusal;
+use merging::merge_line::MergeLine;
 use messages::actor::Actor;
 use messages::shape::Shape;
 use model::policy::Policy;
-use seat_text::block::Head;
+use seat_keeping::appointment::Appointment;
 use std::alloc::{AllocError, Global};
 use std::convert::AsStr;
 use texts::number::number_of;
@@ -33,6 +35,15 @@ const MOST_PAST: u64 = 65_534;
 
 // The greatest number of microseconds by which clocks may differ.
 const GREATEST_SKEW: u64 = 9_223_372_036_854_775_807;
+
+/// What the words of a command line ask for.
+#[derive(Drop)]
+pub(crate) enum Asked<'a> {
+    Seat(ActorLine<'a>),
+    Members(MembersLine<'a>),
+    Merge(MergeLine<'a>),
+    Play,
+}
 
 /// What the words ask for, the first of them being the program's name.
 ///
@@ -118,13 +129,13 @@ fn seat_in<'a>(values: &ArgMatches<'a>) -> Option<Asked<'a>>
     let clock = flag_in(values, "clock");
     let log = values.get_str("LOG");
     Some(Asked::Seat(ActorLine {
-        head: Head {
+        appointment: Appointment {
             shape,
             actor,
             again,
+            left: left as u16,
+            clock,
         },
-        left: left as u16,
-        clock,
         log,
     }))
 }

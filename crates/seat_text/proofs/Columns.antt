@@ -1,5 +1,5 @@
 -- The columns of lines that are none.
-use Rattle.std.proofs.Common.{◌≡◌, ◌≢◌, ◌+◌, ℕ, suc, Bool, false, if◌then◌else◌, List, [], ◌∷◌, ◌++◌, length, refl, arith}
+use Rattle.std.proofs.Common.{◌≡◌, ◌≢◌, ◌+◌, ℕ, suc, false, if◌then◌else◌, List, [], ◌∷◌, ◌++◌, length, refl, arith}
 use Rattle.texts.specs.rule.Layout.{space}
 use Rattle.texts.specs.rule.Reads.{IsOneField, Lacks, has_no_space}
 use Rattle.texts.proofs.FirstWords.{has_no_space-one}
@@ -16,9 +16,9 @@ has_space-behind [] rest = refl
 has_space-behind (b ∷ word) rest = grind (arith, has_space-behind word rest)
 
 -- the column of a line with a space is that of its first word
-pub column_behind : (of_list : Bool) (line word rest : List ℕ) → Lacks space word → line ≡ word ++ space ∷ rest → column_of of_list line ≡ (if has_operands of_list word then length word + 2 else 1)
-column_behind of_list line word rest lacks is = rw is (rw (has_space-behind word rest) (rw (first_word-behind word rest lacks) refl))
+pub column_behind : (line word rest : List ℕ) → Lacks space word → line ≡ word ++ space ∷ rest → column_of line ≡ (if has_operands word then length word + 2 else 1)
+column_behind line word rest lacks is = rw is (rw (has_space-behind word rest) (rw (first_word-behind word rest lacks) refl))
 
 -- a line without a space has nothing behind its first word
-pub column_alone : (of_list : Bool) (line : List ℕ) → IsOneField line → column_of of_list line ≡ 1
-column_alone of_list line one = rw (has_no_space-one line one) refl
+pub column_alone : (line : List ℕ) → IsOneField line → column_of line ≡ 1
+column_alone line one = rw (has_no_space-one line one) refl

@@ -1,12 +1,3 @@
 pub mod Columns
-pub mod Goings
-pub mod LineParts
-pub mod Lines
-pub mod Listing
-pub mod Naming
-pub mod Passing
 pub mod Sayings
 pub mod SeatLineKinds
-pub mod Taking
-pub mod Tearing
-pub mod Tellings

@@ -1,2 +1,1 @@
 pub mod rule
-pub mod code

@@ -1,10 +1,4 @@
-pub mod Talks
 pub mod SeatLines
 pub mod Blocks
-pub mod Clocks
 pub mod Columns
 pub mod Speaking
-pub mod Logs
-pub mod Torn
-pub mod Readings
-pub mod Lists

@@ -1,13 +1,9 @@
-//! Seats by lines: what they are told, and what they do, as texts; talks with them, and their logs, read back. This crate knows
-//! nothing of how logs are merged, of files, or of threads.
+//! Seats by lines: what they are told, and what they do, as texts.
 #![tactic(auto)]
 
-pub mod block;
-pub mod clock;
-mod parts;
-pub mod read;
-pub mod reader;
+mod column;
+mod ledger;
+pub mod reading;
 pub mod seat_line;
 pub mod speaker;
-pub mod talk;
 pub mod writing;

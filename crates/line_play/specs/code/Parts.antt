@@ -1,10 +1,8 @@
 -- A script as far as it was played, as the code stores it, and what that stands for.
 use Rattle.std.specs.Prelude.{ℕ, Option, option_map}
 use Rattle.player.specs.code.Parts.{PlayerParts, progress}
-use Rattle.seat_text.specs.rule.Talks.{Saying, Stopping}
-use Rattle.line_play.specs.declared.played_lines.Stop.{Stop}
+use Rattle.talks.specs.Talks.{Saying}
 use Rattle.line_play.specs.rule.Answers.{Says, Stage}
-use Rattle.line_play.specs.rule.Stops.{StopsAt}
 
 pub record PlayedParts : Type 0 where
   pub lines : ℕ
@@ -13,8 +11,5 @@ pub record PlayedParts : Type 0 where
 abbrev pub stage_of : PlayedParts → Stage
 stage_of p = record { lines = p.lines; run = option_map progress p.player }
 
-abbrev pub PartsSay : Saying PlayedParts
-PartsSay a line said b = Says (stage_of a) line said (stage_of b)
-
-abbrev pub PartsStop : Stopping PlayedParts Stop
-PartsStop a line stop = StopsAt (stage_of a) line stop
+abbrev pub SaysAt : Saying PlayedParts
+SaysAt a line said b = Says (stage_of a) line said (stage_of b)

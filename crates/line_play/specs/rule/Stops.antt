@@ -6,9 +6,9 @@ use Rattle.lockscript.specs.declared.play_error.PlayError.TheVariants as error
 use Rattle.lockscript.specs.declared.script_line.ScriptCommand.{ScriptCommand}
 use Rattle.lockscript.specs.rule.Scripts.{IsLine, IsNoLine, IsNoShape, command_text}
 use Rattle.player.specs.rule.Progress.{Does, Progress}
-use Rattle.seat_text.specs.rule.Talks.{longest_line}
-use Rattle.line_play.specs.declared.played_lines.Stop.{Stop}
-use Rattle.line_play.specs.declared.played_lines.Stop.TheVariants.{BadLine, JournalFull, NoMemory}
+use Rattle.talks.specs.Talks.{longest_line}
+use Rattle.line_play.specs.declared.stop.Stop.{Stop}
+use Rattle.line_play.specs.declared.stop.Stop.TheVariants.{BadLine, JournalFull, NoMemory}
 use Rattle.line_play.specs.rule.Answers.{Stage}
 
 abbrev pub stop_of : PlayError → Stop

@@ -9,7 +9,7 @@ use Rattle.lockscript.specs.declared.refused_line.RefusedLine.{RefusedLine}
 use Rattle.lockscript.specs.declared.script_line.ScriptCommand.{ScriptCommand}
 use Rattle.lockscript.specs.rule.Scripts.{LineFields, Writes, script_of}
 use Rattle.player.specs.rule.Progress.{Progress, RunsTo, first_progress}
-use Rattle.seat_text.specs.rule.Talks.{Answers}
+use Rattle.talks.specs.Talks.{Answers}
 use Rattle.line_play.specs.rule.Answers.{Says, Stage, answer_text, first_answer, first_stage}
 
 -- what a line of a script made: its command, the entries, and the refusals

@@ -7,8 +7,8 @@ use Rattle.clap.specs.declared.parser.matches.Found.{Found}
 use Rattle.command_line.specs.declared.refusal.Refusal.{Refusal}
 use Rattle.command_line.specs.declared.refusal.Refusal.TheVariants.{Help, Wrong, NotText, NoMemory}
 use Rattle.command_line.specs.rule.Words.{IsShown}
-use Rattle.seat_commands.specs.declared.lines.Asked.{Asked}
-use Rattle.seat_commands.specs.declared.lines.Asked.TheVariants.{Seat, Members, Merge, Play}
+use Rattle.seat_commands.specs.declared.words.Asked.{Asked}
+use Rattle.seat_commands.specs.declared.words.Asked.TheVariants.{Seat, Members, Merge, Play}
 use Rattle.seat_commands.specs.rule.Lines.{IsAsked}
 use Rattle.seat_commands.specs.rule.Table.{IsTable}
 

@@ -1,27 +1,25 @@
 -- What the commands do as the words of a line ask for it.
 use Rattle.std.specs.Prelude.{◌≡◌, ◌⊎◌, ℕ, List, Option, string_bytes}
-use Rattle.std.specs.declared.alloc.AllocError.{AllocError}
 use Rattle.std.specs.Io.KnownBytes.{Appends}
 use Rattle.clap.specs.Words.{Text}
 use Rattle.command_line.specs.declared.refusal.Refusal.{Refusal}
 use Rattle.command_line.specs.declared.refusal.Refusal.TheVariants.{Help, Wrong, NotText, NoMemory}
-use Rattle.line_play.specs.declared.played_lines.Stop.{Stop}
+use Rattle.line_play.specs.declared.answering.PlayEnd.{PlayEnd}
 use Rattle.line_play.specs.rule.Playing.{PlaysLines}
+use Rattle.merging.specs.rule.Ending.{MergesSo}
 use Rattle.replay.specs.rule.Refusals.{refusal_status}
 use Rattle.replay.specs.rule.Stores.{Files, SameFiles}
-use Rattle.seat_text.specs.declared.talk.TalkEnd.{TalkEnd}
-use Rattle.seat_text.specs.declared.talk.TalkEnd.TheVariants as end
-use Rattle.seat_commands.specs.declared.lines.Asked.{Asked}
-use Rattle.seat_commands.specs.declared.lines.Asked.TheVariants.{Seat, Members, Merge, Play}
-use Rattle.seat_commands.specs.declared.register.Unlisted.{Unlisted}
+use Rattle.talks.specs.declared.talk.TalkEnd.{TalkEnd}
+use Rattle.talks.specs.declared.talk.TalkEnd.TheVariants as end
+use Rattle.seat_commands.specs.declared.words.Asked.{Asked}
+use Rattle.seat_commands.specs.declared.words.Asked.TheVariants.{Seat, Members, Merge, Play}
 use Rattle.seat_commands.specs.rule.Asking.{AsksFor, IsRefusal}
-use Rattle.seat_commands.specs.rule.Ending.{MergesSo}
 use Rattle.seat_commands.specs.rule.Keeping.{HasSeat, KeepsList}
 use Rattle.seat_commands.specs.rule.Statuses.{IsFaultStatus, end_status, play_status}
 
 -- the status of a talk with who keeps a list: 3 also where the block of a change could not be kept, which was not answered
-abbrev pub IsListStatus : TalkEnd Unlisted → ℕ → Type 0
-IsListStatus (end.Stopped why) status = IsFaultStatus status
+abbrev pub IsListStatus : TalkEnd → ℕ → Type 0
+IsListStatus end.NoMemory status = IsFaultStatus status
 IsListStatus end status = status ≡ end_status end
 
 -- nothing was written: before that a file was at fault, or memory was short
@@ -31,12 +29,12 @@ WritesNothing out_before out status = (out ≡ out_before) × IsFaultStatus stat
 -- what is asked was done, with this status; `contents` and `remaining` tell what files have
 abbrev pub DoesSo : {F : Type 0} → (contents remaining : F → Option (List ℕ)) → (old new : Files) → (unread out_before out : Option (List ℕ)) → Asked → ℕ → Type 0
 DoesSo contents remaining old new unread out_before out (Seat line) status =
-    ((end : TalkEnd AllocError) × (left : Option (List ℕ)) × HasSeat contents line end unread left out_before out × (status ≡ end_status end)) ⊎ WritesNothing out_before out status
+    ((end : TalkEnd) × (left : Option (List ℕ)) × HasSeat contents line end unread left out_before out × (status ≡ end_status end)) ⊎ WritesNothing out_before out status
 DoesSo contents remaining old new unread out_before out (Members line) status =
-    ((end : TalkEnd Unlisted) × (left : Option (List ℕ)) × KeepsList contents remaining line end unread left out_before out × IsListStatus end status) ⊎ WritesNothing out_before out status
+    ((end : TalkEnd) × (left : Option (List ℕ)) × KeepsList contents remaining line end unread left out_before out × IsListStatus end status) ⊎ WritesNothing out_before out status
 DoesSo contents remaining old new unread out_before out (Merge line) status = MergesSo old line new out_before out status
 DoesSo contents remaining old new unread out_before out Play status =
-    ((end : TalkEnd Stop) × (left : Option (List ℕ)) × PlaysLines end unread left out_before out × (status ≡ play_status end)) ⊎ WritesNothing out_before out status
+    ((end : PlayEnd) × (left : Option (List ℕ)) × PlaysLines end unread left out_before out × (status ≡ play_status end)) ⊎ WritesNothing out_before out status
 
 -- the words were refused, with this status: the help that they ask for was written out, or it could not be; else nothing was
 abbrev pub RefusesSo : (out_before out : Option (List ℕ)) → Refusal → ℕ → Type 0

@@ -10,12 +10,12 @@ use Rattle.messages.specs.declared.actor.Actor.TheVariants.{Node, Server}
 use Rattle.messages.specs.declared.version.Version.TheVariants.{Second}
 use Rattle.messages.specs.rule.Shapes.{ShapeFields, most_files}
 use Rattle.texts.specs.rule.Words.{policy_text}
-use Rattle.seat_commands.specs.rule.SeatTalks.{IsIn}
-use Rattle.seat_commands.specs.declared.lines.ActorLine.{ActorLine}
-use Rattle.seat_commands.specs.declared.lines.MembersLine.{MembersLine}
-use Rattle.seat_commands.specs.declared.lines.MergeLine.{MergeLine}
-use Rattle.seat_commands.specs.declared.lines.Asked.{Asked}
-use Rattle.seat_commands.specs.declared.lines.Asked.TheVariants.{Seat, Members, Merge, Play}
+use Rattle.seat_keeping.specs.rule.SeatTalks.{IsIn}
+use Rattle.seat_commands.specs.declared.actor_line.ActorLine.{ActorLine}
+use Rattle.seat_commands.specs.declared.members_line.MembersLine.{MembersLine}
+use Rattle.merging.specs.declared.merge_line.MergeLine.{MergeLine}
+use Rattle.seat_commands.specs.declared.words.Asked.{Asked}
+use Rattle.seat_commands.specs.declared.words.Asked.TheVariants.{Seat, Members, Merge, Play}
 
 -- the flag is given, or it is not
 pub record HasFlag (text : Option (List ℕ)) (flag : Bool) : Type 0 where
@@ -39,14 +39,14 @@ HasActor f (Server file) = (first_value f (codes "KIND") ≡ Some (codes "server
 
 -- the values are those of the line of a seat
 pub record IsActorLine (f : Found) (line : ActorLine) : Type 0 where
-  pub policy : first_value f (codes "POLICY") ≡ Some (policy_text line.head.shape.policy)
-  pub shape : HasShape f line.head.shape.policy line.head.shape
-  pub actor : HasActor f line.head.actor
-  pub inside : IsIn line.head.shape line.head.actor
-  pub again : HasFlag (one_text f (codes "again")) line.head.again
-  pub left : first_value f (codes "TIMES") ≡ Some (decimal line.left)
+  pub policy : first_value f (codes "POLICY") ≡ Some (policy_text line.appointment.shape.policy)
+  pub shape : HasShape f line.appointment.shape.policy line.appointment.shape
+  pub actor : HasActor f line.appointment.actor
+  pub inside : IsIn line.appointment.shape line.appointment.actor
+  pub again : HasFlag (one_text f (codes "again")) line.appointment.again
+  pub left : first_value f (codes "TIMES") ≡ Some (decimal line.appointment.left)
   pub log : option_map (λ path. path.now) line.log ≡ first_value f (codes "LOG")
-  pub clock : HasFlag (one_text f (codes "clock")) line.clock
+  pub clock : HasFlag (one_text f (codes "clock")) line.appointment.clock
 
 -- the values are those of the line of a list
 pub record IsMembersLine (f : Found) (line : MembersLine) : Type 0 where
@@ -67,7 +67,7 @@ HasLogs f logs = option_map raw_values (matched_of f (codes "LOG")) ≡ Some log
 
 -- what is asked can be done: the actor is one of the cluster
 abbrev pub IsServedAsked : Asked → Type 0
-IsServedAsked (Seat line) = IsIn line.head.shape line.head.actor
+IsServedAsked (Seat line) = IsIn line.appointment.shape line.appointment.actor
 IsServedAsked _ = ⊤
 
 -- the values are those of what is asked

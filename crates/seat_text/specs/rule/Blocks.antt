@@ -18,9 +18,7 @@ use Rattle.lockscript.specs.rule.Scripts.{counts_text}
 use Rattle.journal_text.specs.rule.Journals.{end_text, reply_line}
 use Rattle.journal_text.specs.rule.Texts.{event_text}
 use Rattle.seats.specs.declared.seat_step.SeatStep.{SeatStep}
-use Rattle.merges.specs.declared.logged.Interval.{Interval}
-use Rattle.seat_text.specs.declared.block.Head.{Head}
-use Rattle.seat_text.specs.declared.writing.TaggedCall.{TaggedCall}
+use Rattle.seat_text.specs.declared.ledger.TaggedCall.{TaggedCall}
 
 -- the number of entries so far, and of each process the call that had a tag, if its last one had
 pub record Ledger : Type 0 where
@@ -73,16 +71,15 @@ count_after count event = min (count + 1) greatest_count
 abbrev pub after_step : Option ℕ → Ledger → SeatStep → Ledger
 after_step tag ledger x = record { count = count_after ledger.count x.event; tags = tags_after tag ledger.tags x.event x.outcome.call }
 
--- what the first line of a step begins with: an entry by its number, or a change of a member
-abbrev pub first_text : ℕ → Event → List ℕ
-first_text count (Member change) = codes "member "
-first_text count event = codes "entry " ++ decimal count ++ codes " "
+-- the first line of a step: an entry by its number, or a change of a member
+abbrev pub first_line : ℕ → Event → ℕ → Option CallId → List ℕ
+first_line count (Member change) incarnation call = codes "member " ++ (event_text Second (Member change) incarnation call ++ codes "\n")
+first_line count event incarnation call = codes "entry " ++ decimal count ++ codes " " ++ (event_text Second event incarnation call ++ codes "\n")
 
 -- the lines of a step, with the ledger after it
 abbrev pub step_text : Ledger → SeatStep → List ℕ
 step_text after x =
-    first_text after.count x.event ++ (event_text Second x.event x.incarnation x.outcome.call ++ codes "\n") ++ reply_line x.outcome.reply
-    ++ tag_line after.tags x.outcome.reply ++ to_lines x.outcome.sends
+    first_line after.count x.event x.incarnation x.outcome.call ++ reply_line x.outcome.reply ++ tag_line after.tags x.outcome.reply ++ to_lines x.outcome.sends
 
 -- a step more is written down
 abbrev pub written : Option ℕ → Ledger × List ℕ → SeatStep → Ledger × List ℕ
@@ -114,11 +111,6 @@ cluster_text shape = codes "seat 2 nodes " ++ counts_text shape ++ codes " "
 abbrev pub whose_text : Actor → Bool → List ℕ
 whose_text actor again = actor_text actor ++ again_text again ++ codes "\n"
 
--- the block with which a seat begins
-abbrev pub first_block : Head → List ℕ
-first_block head = cluster_text head.shape ++ whose_text head.actor head.again ++ (end_text 0 ++ codes "\n")
-
--- the line of two readings of a clock, if there is one
-abbrev pub clock_line : Option Interval → List ℕ
-clock_line None = []
-clock_line (Some i) = codes "at " ++ decimal i.began ++ codes " " ++ decimal i.ended ++ codes "\n"
+-- the block with which the seat of an actor begins, which works only once its actor begins again, if it is said so
+abbrev pub first_block : ShapeFields → Actor → Bool → List ℕ
+first_block shape actor again = cluster_text shape ++ whose_text actor again ++ (end_text 0 ++ codes "\n")

@@ -4,7 +4,6 @@ use Rattle.model.specs.rule.Limits.{IsNumber, most_nodes, most_processes}
 use Rattle.messages.specs.declared.event.Event.TheVariants.{AtNode, AtServer, Deliver as Comes, Member}
 use Rattle.messages.specs.declared.event.NodeInput.TheVariants as input
 use Rattle.messages.specs.declared.event.ServerInput.TheVariants as order
-use Rattle.messages.specs.declared.event.MemberEvent.{MemberEvent}
 use Rattle.messages.specs.declared.event.MemberEvent.TheVariants as change
 use Rattle.messages.specs.declared.version.Version.TheVariants.{Second}
 use Rattle.messages.specs.rule.Shapes.{most_files}
@@ -67,11 +66,3 @@ order_of Tick = Passes
 abbrev pub tag_of : SeatLine → Option ℕ
 tag_of (Tagged tag node pid op) = Some tag
 tag_of _ = None
-
--- the declaration or the start of which the line tells
-abbrev pub change_of : SeatLine → Option MemberEvent
-change_of (Declare node) = Some (change.Declare node)
-change_of (Restart node) = Some (change.Restart node)
-change_of (FailServer file) = Some (change.FailServer file)
-change_of (StartServer file) = Some (change.StartServer file)
-change_of _ = None

@@ -1,35 +1,32 @@
 -- What a seat says to a line.
-use Rattle.std.specs.Prelude.{◌≡◌, ◌≢◌, ◌+◌, ◌<◌, ◌≤◌, ◌⊎◌, ◌++◌, ℕ, false, List, Option, Result, IsUtf8, length}
-use Rattle.merges.specs.declared.logged.Interval.{Interval}
+use Rattle.std.specs.Prelude.{◌≡◌, ◌≢◌, ◌+◌, ◌<◌, ◌≤◌, ◌⊎◌, ℕ, List, Result, IsUtf8, length}
 use Rattle.messages.specs.declared.refusal.Refused.{Refused}
 use Rattle.seats.specs.declared.order.Order.{Order}
 use Rattle.seats.specs.declared.seat_step.SeatStep.{SeatStep}
+use Rattle.talks.specs.Talks.{longest_line}
 use Rattle.seat_text.specs.declared.seat_line.SeatLine.{SeatLine}
-use Rattle.seat_text.specs.rule.Blocks.{Ledger, bad_line, block, clock_line}
-use Rattle.seat_text.specs.rule.Clocks.{MayRead}
+use Rattle.seat_text.specs.rule.Blocks.{Ledger, bad_line, block}
 use Rattle.seat_text.specs.rule.Columns.{column_of}
 use Rattle.seat_text.specs.rule.SeatLines.{IsServedLine, line_text, order_of, tag_of}
-use Rattle.seat_text.specs.rule.Talks.{longest_line}
 
--- who has the seat, what was written, and the last reading of the clock, if one is read
+-- who has the seat, and what was written
 pub record Speaking (S : Type 0) : Type 0 where
   pub seat : S
   pub ledger : Ledger
-  pub last : Option ℕ
 
 -- what one does as it is told, and what it is then
 abbrev pub Doing : Type 0 → Type 1
 Doing S = S → Order → Result (List SeatStep) Refused → S → Type 0
 
 -- the line tells the seat something, which it does or refuses, and the block tells what came of that
-pub record Obeys {S : Type 0} (does : Doing S) (a : S) (before : Ledger) (line said : List ℕ) (b : S) (after : Ledger) : Type 0 where
+pub record Obeys {S : Type 0} (does : Doing S) (a : Speaking S) (line said : List ℕ) (b : Speaking S) : Type 0 where
   pub told : SeatLine
   pub done : Result (List SeatStep) Refused
   pub served : IsServedLine told
   pub text : line ≡ line_text told
   pub short : length line ≤ longest_line
-  pub did : does a (order_of told) done b
-  pub says : block (tag_of told) before done ≡ (after, said)
+  pub did : does a.seat (order_of told) done b.seat
+  pub says : block (tag_of told) a.ledger done ≡ (b.ledger, said)
 
 -- the bytes are too many
 pub record IsTooLong (line : List ℕ) (column : ℕ) : Type 0 where
@@ -47,28 +44,19 @@ pub record IsNoLine (line : List ℕ) (column : ℕ) : Type 0 where
   pub short : length line ≤ longest_line
   pub is_text : IsUtf8 line
   pub no_line : (told : SeatLine) → IsServedLine told → line ≢ line_text told
-  pub column_is : column ≡ column_of false line
+  pub column_is : column ≡ column_of line
 
 -- the line is none, and this column tells where
 abbrev pub IsBad : List ℕ → ℕ → Type 0
 IsBad line column = IsTooLong line column ⊎ (IsNoText line column ⊎ IsNoLine line column)
 
 -- the line is none, and nothing happens
-pub record Refuses {S : Type 0} (a : S) (before : Ledger) (line said : List ℕ) (b : S) (after : Ledger) : Type 0 where
+pub record Refuses {S : Type 0} (a : Speaking S) (line said : List ℕ) (b : Speaking S) : Type 0 where
   pub column : ℕ
   pub bad : IsBad line column
   pub says : said ≡ bad_line column
-  pub same_seat : b ≡ a
-  pub same_ledger : after ≡ before
+  pub same : b ≡ a
 
--- what comes of a line
-abbrev pub SaysInside : {S : Type 0} → Doing S → S → Ledger → List ℕ → List ℕ → S → Ledger → Type 0
-SaysInside does a before line said b after = Obeys does a before line said b after ⊎ Refuses a before line said b after
-
--- what a seat says to a line, and what it is then: what comes of the line, behind two readings of the clock, if one is read
-pub record Says {S : Type 0} (does : Doing S) (a : Speaking S) (line said : List ℕ) (b : Speaking S) : Type 0 where
-  pub clock : Option Interval
-  pub inside : List ℕ
-  pub read : MayRead a.last clock b.last
-  pub comes : SaysInside does a.seat a.ledger line inside b.seat b.ledger
-  pub says : said ≡ clock_line clock ++ inside
+-- what a seat says to a line, and what it is then
+abbrev pub Says : {S : Type 0} → Doing S → Speaking S → List ℕ → List ℕ → Speaking S → Type 0
+Says does a line said b = Obeys does a line said b ⊎ Refuses a line said b

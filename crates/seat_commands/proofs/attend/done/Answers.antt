@@ -1,5 +1,5 @@
 use Rattle.std.proofs.Common.{sym, subst}
-use Rattle.seat_commands.specs.declared.lines.Asked.{Asked}
+use Rattle.seat_commands.specs.declared.words.Asked.{Asked}
 use Rattle.seat_commands.specs.rule.Doings.{DoesSo}
 use Rattle.seat_commands.proofs.attend.done.Goals as goal
 

@@ -1,0 +1,4 @@
+pub mod Blocks
+pub mod Torn
+pub mod Readings
+pub mod Lists

@@ -1,0 +1,2 @@
+pub mod Faulting
+pub mod Having

@@ -1,0 +1,4 @@
+pub mod Registers
+pub mod Fronts
+pub mod Readings
+pub mod Talks

@@ -1,0 +1,3 @@
+pub mod Goings
+pub mod LineParts
+pub mod Tellings
