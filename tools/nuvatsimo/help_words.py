@@ -38,6 +38,10 @@ _TOOLS = (
     ("schedule", "Print the script of a schedule"),
     ("help", "Print this message or the help of the given command"),
 )
+_ADDED = """\
+Of the tools are also --open and --json of run, --why of audit, --node, --file and
+--json of state, and --picture of judge.
+"""
 _NOTES = """\
 Examples. Play a script, keep the journal of the run, and check that it is one:
   lockreplay run SCRIPT --journal FILE
@@ -112,9 +116,7 @@ def commands() -> str:
     lines += [f"  {name:<11}  {about}" for name, about in _PROVED]
     lines += ["", "Commands of the tools, which are tested and ask the program for what holds:"]
     lines += [f"  {name:<11}  {about}" for name, about in _TOOLS]
-    lines.append("Of the tools are also --open and --json of run, --why of audit, --node, --file and")
-    lines.append("--json of state, and --picture of judge.")
-    return "\n".join(lines) + "\n"
+    return "\n".join(lines) + f"\n{_ADDED}"
 
 
 def long_help() -> str:

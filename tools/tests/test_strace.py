@@ -165,7 +165,7 @@ class Recorded(unittest.TestCase):
         times = LineTimes(text)
         self.assertEqual((times.cut(), times.are_fine()), (10**8 - 1, False))
         self.assertEqual(times.at(2), second + 5 * 10**8)
-        self.assertEqual(times.end(1, 1, 1000), second + 3 * 10**8 + 10**7)
+        self.assertEqual(times.end(1, 1, 1000), second + 5 * 10**8 - 1000)
         self.assertEqual(times.end(1, 3, 1000), second + 5 * 10**8)
         self.assertIsNone(times.end(3, 3, 1000))
 

@@ -4,7 +4,7 @@ import re
 LINE = re.compile(r"(?:(\d+)|\[pid +(\d+)\]) +(\d+)\.(\d+) (.*)")
 RESUMED = re.compile(r"<\.\.\. \w+ resumed>(.*)")
 CALL = re.compile(r"(\w+)\((.*)")
-RETURNED = re.compile(r"(.*)\)\s+= (-?\d+|\?)(?:<[^>]*>)?(?: ([A-Z]\w+))?(?: \(.*\))?(?: <([\d.]+)>)?")
+RETURNED = re.compile(r"(.*)\)\s+= (-?\d+|\?)(?:<[^>]*>)?(?: ([A-Z]\w+))?(?: \(.*\))?(?: <[\d.]+>)?")
 MODES = {"F_RDLCK": "read", "F_WRLCK": "write"}
 NANO = 10**9
 
@@ -16,11 +16,11 @@ def nanoseconds(whole, part):
 class Call:
     def __init__(self, line, pid, name, arguments):
         self.begin, self.pid, self.name, self.arguments = line, pid, name, arguments
-        self.end = self.gave = self.error = self.took = None
+        self.end = self.gave = self.error = None
 
     def return_at(self, line, rest):
         found = RETURNED.fullmatch(self.arguments + rest)
-        self.end, (self.arguments, self.gave, self.error, self.took) = line, found.groups()
+        self.end, (self.arguments, self.gave, self.error) = line, found.groups()
 
 
 class Recording:
@@ -45,10 +45,9 @@ class Recording:
                     pending[pid] = self.calls[-1]
                 else:
                     self.calls[-1].return_at(number, "")
-        self.digits |= {len(call.took.split(".")[1]) for call in self.calls if call.took}
 
     def stretch(self, call, step):
-        """When a call was made: from the time in front of it on, until the line where it was resumed, or until before the next line and as long as it took."""
+        """When a call was made: from the time in front of it on, until the line where it was resumed, or until before the next line."""
         begin = self.at[call.begin]
         if call.end is None or call.gave == "?" and not call.error:
             return begin, None
@@ -56,10 +55,7 @@ class Recording:
             return begin, self.at[call.end]
         if call.end + 1 not in self.at:
             return begin, None
-        latest = max(begin, self.at[call.end + 1] - step)
-        if call.took:
-            latest = min(latest, begin + nanoseconds(*call.took.split(".")) + 2 * 10 ** (9 - min(self.digits)))
-        return begin, latest
+        return begin, max(begin, self.at[call.end + 1] - step)
 
 
 class Clients:

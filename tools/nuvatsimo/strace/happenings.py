@@ -2,7 +2,7 @@
 
 from __future__ import annotations
 
-from typing import NamedTuple, Optional, Union
+from typing import Callable, NamedTuple, Optional, Union
 
 
 class LockCall(NamedTuple):
@@ -113,6 +113,30 @@ Happening = Union[
 ]  # fmt: skip
 
 NOTHING = Nothing()
+
+# By the kind of a happening the word in the name of the method that takes it, as `_take_open`.
+_TAKEN_BY = {
+    Nothing: "nothing",
+    Opens: "open",
+    Refers: "refers",
+    Duplicates: "duplicate",
+    Closes: "close",
+    ClosesRange: "close_range",
+    Executes: "execute",
+    Forks: "fork",
+    StartsThread: "thread",
+    Exits: "exit",
+    Asks: "ask",
+    Returns: "return",
+    GivesUp: "return",
+    Unserved: "unserved",
+}
+
+
+def takers_of(one: object) -> dict[type, Callable[..., None]]:
+    """Returns the methods by which an object takes happenings, by the kinds that it takes."""
+    methods = {kind: getattr(one, f"_take_{word}", None) for kind, word in _TAKEN_BY.items()}
+    return {kind: method for kind, method in methods.items() if method is not None}
 
 
 class SystemCall(NamedTuple):

@@ -2,7 +2,7 @@
 
 from __future__ import annotations
 
-from typing import Callable, NamedTuple, Optional
+from typing import NamedTuple, Optional
 
 from nuvatsimo.strace import calls
 from nuvatsimo.strace.clients import (
@@ -13,22 +13,13 @@ from nuvatsimo.strace.clients import (
 )
 from nuvatsimo.strace.happenings import (
     NOT_OPEN,
-    Asks,
-    Closes,
-    ClosesRange,
-    Duplicates,
     Event,
-    Executes,
     Exits,
-    Forks,
     LockCall,
     Notes,
-    Nothing,
-    Opens,
-    Refers,
-    StartsThread,
     SystemCall,
     Unserved,
+    takers_of,
 )
 from nuvatsimo.strace.lines import number_in
 from nuvatsimo.strace.reader import events_of
@@ -130,19 +121,7 @@ class _Clients:
         self._asking: dict[int, tuple[int, Descriptor]] = {}
         self.told: list[ToldCall] = []
         self.notes = Notes()
-        self._takers: dict[type, Callable[[ClientProcess, Event, SystemCall], None]] = {
-            Nothing: self._take_nothing,
-            Opens: self._take_open,
-            Refers: self._take_refers,
-            Duplicates: self._take_duplicate,
-            Closes: self._take_close,
-            ClosesRange: self._take_close_range,
-            Executes: self._take_execute,
-            Forks: self._take_fork,
-            StartsThread: self._take_thread,
-            Exits: self._take_exit_group,
-            Asks: self._take_ask,
-        }
+        self._takers = takers_of(self)
 
     def take(self, event: Event) -> None:
         """Takes an event."""
@@ -262,7 +241,7 @@ class _Clients:
         self._forget(event.happening.thread)
         self._processes.share(process, event.happening.thread)
 
-    def _take_exit_group(self, process: ClientProcess, event: Event, passed: SystemCall) -> None:
+    def _take_exit(self, process: ClientProcess, event: Event, passed: SystemCall) -> None:
         process.leave(event.line)
 
     def _forget(self, pid: int) -> None:

@@ -42,9 +42,9 @@ times, and then how often more. The script has the other lines, and the exit sta
 
 With --history the text is a history of clients, for 'lockreplay judge', of what the
 processes saw; there are no nodes then. Each line of RECORDING needs its time since 1970
-(strace -ttt; with -T its length too, with -y the paths of its files). A call begins at
-the time before its line, and ends where it is resumed, else before the next line, and as
-soon as -T says. Recordings of several machines are given together, as NAME=RECORDING:
+(strace -ttt; with -y the paths of its files). A call begins at the time before its line,
+and ends where it is resumed, else before the next line. Recordings of several machines
+are given together, as NAME=RECORDING:
   lockreplay from-strace --history a=a.strace b=b.strace
 A line whose time is missing or goes back is told as RECORDING:LINE (exit status 3).
 """

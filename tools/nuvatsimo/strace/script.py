@@ -2,7 +2,7 @@
 
 from __future__ import annotations
 
-from typing import Callable, NamedTuple, Optional
+from typing import NamedTuple, Optional
 
 from nuvatsimo.strace.happenings import (
     EXECUTES,
@@ -12,23 +12,12 @@ from nuvatsimo.strace.happenings import (
     TOO_MANY_DESCRIPTORS,
     TOO_MANY_FILES,
     TOO_MANY_PROCESSES,
-    Asks,
-    Closes,
-    ClosesRange,
-    Duplicates,
-    Executes,
-    Exits,
-    Forks,
     GivesUp,
     Happening,
     LockCall,
     Notes,
     Nothing,
-    Opens,
-    Refers,
-    Returns,
-    StartsThread,
-    Unserved,
+    takers_of,
 )
 from nuvatsimo.strace.processes import (
     OpenDescriptor,
@@ -116,21 +105,7 @@ class _Scripting:
         self.used_nodes: set[int] = set()
         self.lines: list[str] = []
         self.notes = Notes()
-        self._takers: dict[type, Callable[[Step, int], None]] = {
-            Opens: self._take_open,
-            Refers: self._take_refers,
-            Duplicates: self._take_duplicate,
-            Closes: self._take_close,
-            ClosesRange: self._take_close_range,
-            Executes: self._take_execute,
-            Forks: self._take_fork,
-            StartsThread: self._take_thread,
-            Exits: self._take_exit,
-            Asks: self._take_ask,
-            Returns: self._take_return,
-            GivesUp: self._take_return,
-            Unserved: self._take_unserved,
-        }
+        self._takers = takers_of(self)
 
     def take_all(self, steps: list[Step]) -> None:
         """Takes the steps, in order."""

@@ -17,7 +17,6 @@ LEAST_SECONDS = 10**9
 NO_TIME = "expected a time since 1970, as strace -ttt writes it"
 BACKWARDS = "expected no time before that of a line above it"
 _SECONDS = re.compile(r"([0-9]+)\.([0-9]{1,9})")
-_UNKNOWN = -1
 
 
 class BadTime(Exception):
@@ -65,14 +64,6 @@ def time_before(text: str) -> Optional[Seconds]:
     return time if time and time.nanoseconds >= LEAST_SECONDS * SECOND else None
 
 
-def time_behind(text: str) -> Optional[Seconds]:
-    """Returns the time that a text ends with, as strace -T writes it."""
-    if not text.endswith(">"):
-        return None
-    _, bracket, word = text[:-1].rpartition(" <")
-    return seconds_in(word) if bracket else None
-
-
 class LineTimes:
     """The times of the lines of a recording. They never fall.
 
@@ -82,8 +73,6 @@ class LineTimes:
 
     def __init__(self, recording: str) -> None:
         self._at = array("q")
-        # What the call of a line took, widened by what both of its times were cut off.
-        self._took = array("q")
         # Digits behind the point: the fewest before a line, and the most of any time.
         self._fewest = FINEST
         self._most = 0
@@ -101,15 +90,9 @@ class LineTimes:
         if at.nanoseconds < self._last():
             raise BadTime(number, BACKWARDS)
         self._fewest = min(self._fewest, at.digits)
-        took, span = time_behind(text), _UNKNOWN
-        if took is not None:
-            self._most = max(self._most, took.digits)
-            cut = 2 * place_value(min(at.digits, took.digits))
-            span = min(took.nanoseconds + cut, GREATEST)
         self._most = max(self._most, at.digits)
         for _ in range(len(self._at), number):
             self._at.append(at.nanoseconds)
-            self._took.append(span)
 
     def _last(self) -> int:
         return self._at[-1] if self._at else 0
@@ -130,13 +113,12 @@ class LineTimes:
         """Returns a time by which a call had returned that began in one line, as another tells.
 
         It is the time of that other line, where the call was resumed. Else it is before the next
-        line was written, by a step of the history's times, and as soon as it took the time that
-        stands behind its line. It is None where no next line has a time.
+        line was written, by a step of the history's times. It is None where no next line has a
+        time. The length of a call, as strace -T writes it, is no bound: strace takes the time
+        before the line first, and begins to measure later.
         """
         if begin != end:
             return self.at(end)
         if end >= len(self._at):
             return None
-        at, took = self._at[end - 1], self._took[end - 1]
-        latest = max(self._at[end] - step, at)
-        return latest if took == _UNKNOWN else min(latest, at + took)
+        return max(self._at[end] - step, self._at[end - 1])
