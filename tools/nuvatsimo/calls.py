@@ -10,6 +10,7 @@ from collections.abc import Iterator
 from typing import Any, NamedTuple, Optional
 
 from nuvatsimo.journal import Entry
+from nuvatsimo.names import Names
 from nuvatsimo.texts import host_of, node_of
 
 _LOCK_CALLS = ("set", "wait", "unlock", "query")
@@ -97,9 +98,9 @@ class Made(NamedTuple):
     node: int
     op: str
 
-    def text(self) -> str:
+    def text(self, names: Names) -> str:
         """Says who makes it, and what it asks for."""
-        return f"process {self.process} of node {self.node} calls: {self.op}"
+        return f"{names.process(self.node, self.process)} calls: {self.op}"
 
     def document(self) -> dict[str, Any]:
         """Returns it for JSON, without its name."""

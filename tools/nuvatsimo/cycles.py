@@ -2,16 +2,36 @@
 
 from __future__ import annotations
 
+from typing import Callable
+
 from nuvatsimo.places import World
 
 
-def cycles_of(world: World) -> list[list[str]]:
+# Returns the processes, as `p1@2.1`, that are an owner of locks, or share it.
+Users = Callable[[str], list[str]]
+
+
+def cycles_of(world: World, users: Users) -> list[tuple[list[str], bool]]:
     """Returns cycles in which each call waits for the next, and the last for the first.
 
-    Calls that wait for none that is left go first. From each that stays, by node and arrival,
-    one walks to the first that it waits for, until a call comes again.
+    Those that only a failure or a signal ends come first. Behind them stand possible ones, with
+    `False`: there a description is in the way that others share, who could unlock it.
     """
-    waits = _without_ends(_waited_for(world))
+    certain = _walks(_without_ends(_waited_for(world, users, True)))
+    possible = _walks(_without_ends(_waited_for(world, users, False)))
+    met = {name for cycle in certain for name in cycle}
+    others = [cycle for cycle in possible if met.isdisjoint(cycle)]
+    return [(cycle, True) for cycle in certain] + [(cycle, False) for cycle in others]
+
+
+def owners_in_the_way(world: World) -> set[str]:
+    """Returns the owners of locks that waits wait for."""
+    return {owner for name in world.calls for owner in _owners_before(world, name)}
+
+
+def _walks(waits: dict[str, str]) -> list[list[str]]:
+    """Returns the cycles. From each call, by node and arrival, one walks to the first that it
+    waits for, until a call comes again."""
     met: set[str] = set()
     cycles = []
     for name in waits:
@@ -29,21 +49,31 @@ def _order(name: str) -> tuple[int, ...]:
     return tuple(map(int, name.split(".")))
 
 
-def _waited_for(world: World) -> dict[str, list[str]]:
+def _waited_for(world: World, users: Users, is_certain: bool) -> dict[str, list[str]]:
     """Returns the calls that each open call waits for, both by node and arrival."""
     names = sorted(world.calls, key=_order)
-    by_owner: dict[str, list[int]] = {}
-    for at, name in enumerate(names):
-        call = world.calls[name]
-        for owner in {call.owner, call.process}:
-            by_owner.setdefault(owner, []).append(at)
+    by_process = {world.calls[name].process: at for at, name in enumerate(names)}
     found = {}
     for name in names:
-        call = world.calls[name]
-        owners = {lock["owner"] for lock in world.blocking(call)} if call.asks == "wait" else set()
-        places = {at for owner in owners for at in by_owner.get(owner, ())}
+        places = {
+            by_process[process]
+            for owner in _owners_before(world, name)
+            for process in _helpers(users(owner), is_certain)
+            if process in by_process
+        }
         found[name] = [names[at] for at in sorted(places)]
     return found
+
+
+def _owners_before(world: World, name: str) -> set[str]:
+    """Returns the owners of the locks that a wait waits for."""
+    call = world.calls[name]
+    return {lock["owner"] for lock in world.blocking(call)} if call.asks == "wait" else set()
+
+
+def _helpers(processes: list[str], is_certain: bool) -> list[str]:
+    """Returns the processes that could unlock: with `is_certain` where nobody else could."""
+    return [] if is_certain and len(processes) > 1 else processes
 
 
 def _without_ends(waits: dict[str, list[str]]) -> dict[str, str]:

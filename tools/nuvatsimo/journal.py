@@ -106,7 +106,7 @@ class Source:
         with self._lines() as lines, Progress("reading", os.path.getsize(self.path)) as progress:
             next(lines)
             checked = lines if is_audited else self._checked(head, lines)
-            yield from _entries_of(checked, progress if progress.is_on else None)
+            yield from entries_of(checked, progress if progress.is_on else None)
 
     def refused(self, number: int) -> faults.Fault:
         """Returns the fault of a bad line, or that the text is no UTF-8, which comes first."""
@@ -187,7 +187,8 @@ def _head_of(line: str) -> Optional[Head]:
     return Head(int(words[1]), int(words[3]), int(words[5]), words[7])
 
 
-def _entries_of(lines: Iterator[str], progress: Optional[Progress]) -> Iterator[Entry]:
+def entries_of(lines: Iterator[str], progress: Optional[Progress] = None) -> Iterator[Entry]:
+    """Yields the entries of lines behind the first one of a journal."""
     entry: Optional[Entry] = None
     position = 0
     number = 1

@@ -11,18 +11,25 @@ from typing import Any, Optional
 
 from nuvatsimo import faults, journal
 from nuvatsimo.calls import Ended, Made, end_by, made_by
-from nuvatsimo.cycles import cycles_of
+from nuvatsimo.cycles import Users, cycles_of, owners_in_the_way
 from nuvatsimo.journal import Entry, Source
 from nuvatsimo.messages import Undelivered
+from nuvatsimo.names import OPTION, Names, names_of
 from nuvatsimo.places import Place, World
+from nuvatsimo.taken import TakenLocks
 from nuvatsimo.texts import call_of, host_of, json_line, lock_of
+from nuvatsimo.waits import Cycle, Waits, cycle_words, waits_text
 from nuvatsimo.words import Argument, Command, Option
 
 COMMAND = Command(
     "open",
     "List the calls of a journal that have no reply",
     (Argument("journal", "JOURNAL", "The journal: a file of lines, or - for standard input"),),
-    (Option("--json", "Print the text as JSON"),),
+    (
+        Option("--ever", "List each cycle of waits that stood, and behind which entries"),
+        Option("--json", "Print the text as JSON"),
+        OPTION,
+    ),
     """\
 The journal is audited first. Where its entries are no run, the text is 'audit no K', as
 of 'lockreplay audit' (exit status 1).
@@ -38,8 +45,14 @@ whose it is, what it asks, and why it is open (exit status 0):
 Messages about it that were not delivered follow. Last come cycles of waits, one for each
 knot: a call waits for another where a lock of that one's process blocks it, or a lock of
 the description through which the other asks. 'lockreplay explain' tells more of a call.
+
+With --ever the cycles are those that stood anywhere in the run, each with the first entry
+and the last behind which it stood. A cycle is a possible one where a process that shares a
+description, and is not in the cycle, could unlock.
 """,
 )
+# So many cycles that stood are looked at in the program's state too.
+_MOST = 10
 
 
 class Unanswered:
@@ -113,10 +126,10 @@ class Told:
             if not self.blocked or held.asks != "wait":
                 self.place = world.place(held, has_messages=bool(call.undelivered.sent()))
 
-    def lines(self) -> Iterator[str]:
+    def lines(self, names: Names) -> Iterator[str]:
         """Yields its lines."""
         call = self.call
-        yield f"open {call.made.name} since entry {call.entry}: {call.made.text()}"
+        yield f"open {call.made.name} since entry {call.entry}: {call.made.text(names)}"
         if call.ended is not None:
             yield f"  {call.ended.text()}"
         for lock in self.blocked:
@@ -140,34 +153,62 @@ class Told:
 
 
 class Report:
-    """The open calls of a journal, and the cycles of waits."""
+    """The open calls of a journal, and the cycles of waits: with `ever` of those that stood."""
 
-    def __init__(self, source: Source) -> None:
+    def __init__(self, source: Source, names: Names, ever: bool = False) -> None:
+        self._names = names
+        self._ever = ever
         world = World(source.state())
-        calls = OpenCalls()
+        calls, waits = OpenCalls(), Waits()
         for entry in source.entries(is_audited=True):
             calls.take(entry)
+            if ever:
+                waits.take(entry)
         self._told = [Told(call, world) for call in calls.calls()]
-        self._cycles = cycles_of(world)
+        self._cycles = cycles_of(world, _users_of(source, world))
+        self._stood = [it for at, it in enumerate(waits.cycles) if at >= _MOST or _is_so(source, it)]
 
     def lines(self) -> Iterator[str]:
         """Yields the lines of the text."""
         for told in self._told:
-            yield from told.lines()
-        for cycle in self._cycles:
-            pairs = zip(cycle, cycle[1:] + cycle[:1])
-            yield "cycle: " + ", ".join(f"{one} waits for {other}" for one, other in pairs)
+            yield from told.lines(self._names)
+        if self._ever:
+            yield from (cycle.text() for cycle in self._stood)
+            return
+        for calls, is_certain in self._cycles:
+            yield f"{cycle_words(is_certain)}: {waits_text(calls)}"
 
     def document(self) -> dict[str, Any]:
         """Returns the report for JSON."""
-        return {"open": [told.document() for told in self._told], "cycles": self._cycles}
+        cycles = {
+            "cycles": [calls for calls, is_certain in self._cycles if is_certain],
+            "possible_cycles": [calls for calls, is_certain in self._cycles if not is_certain],
+        }
+        if self._ever:
+            cycles["ever"] = [cycle.document() for cycle in self._stood]
+        return {"open": [told.document() for told in self._told], **cycles}
+
+
+def _users_of(source: Source, world: World) -> Users:
+    """Returns what tells the processes of an owner. Those of a description stand in the journal."""
+    locks = TakenLocks()
+    if any(owner.startswith("d") for owner in owners_in_the_way(world)):
+        for entry in source.entries(is_audited=True):
+            locks.take(entry)
+    return lambda owner: [f"p{pid}@{host}" for host, pid in locks.users(owner)]
+
+
+def _is_so(source: Source, cycle: Cycle) -> bool:
+    """Asks the program whether a lock blocks each call of a cycle where it began."""
+    world = World(source.state(cycle.begin))
+    return all(name in world.calls and world.blocking(world.calls[name]) for name in cycle.calls)
 
 
 def main(words: list[str]) -> int:
     """Runs `open`."""
     asked = COMMAND.parse(words)
     with journal.opened(asked.journal) as source:
-        report = Report(source)
+        report = Report(source, names_of(asked.journal, asked.names), asked.ever)
     if asked.json:
         sys.stdout.write(json_line(report.document()))
     else:

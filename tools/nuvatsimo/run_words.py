@@ -1,4 +1,7 @@
-"""Does `run --open` and `run --json`, over the listing and the journal of the program's `run`."""
+"""Does `run --open` and `run --json`, over the listing and the journal of the program's `run`.
+
+Of any `run` it warns of the closes by which a lock goes that another descriptor had taken.
+"""
 
 from __future__ import annotations
 
@@ -11,8 +14,9 @@ from collections.abc import Iterable, Iterator
 from functools import partial
 from typing import Any, Optional
 
-from nuvatsimo import faults, program
+from nuvatsimo import faults, program, traps
 from nuvatsimo.journal import Source
+from nuvatsimo.names import Names
 from nuvatsimo.open_calls import Report
 from nuvatsimo.texts import json_line, lock_of
 from nuvatsimo.words import Argument, Command, Option, Parsed
@@ -37,6 +41,9 @@ With --open the listing has a sixth section, 'open', with the calls that have no
 
 With --json, which can't be used with --quiet, the listing is one line of JSON, and with
 --open the calls are members of it, as 'lockreplay open --json' has them.
+
+Standard error warns of each close, by its line, that drops a lock which another
+descriptor of the file had taken. That changes no exit status.
 """,
 )
 
@@ -144,8 +151,42 @@ def json_of(listing: str, report: Optional[Report]) -> Iterator[str]:
     yield "}\n"
 
 
+def _text_of(script: str) -> str:
+    """Returns the text of a script that was run, and none where it can't be read again."""
+    try:
+        if os.path.isfile(script):
+            with open(script, encoding="utf-8", newline="\n") as file:
+                return file.read()
+    except (OSError, ValueError):
+        pass
+    return ""
+
+
+def _names_in(script: str) -> Names:
+    """Returns the names that the comments of a script tell."""
+    return Names(_text_of(script).split("\n"))
+
+
+def _warn(asked: Parsed) -> None:
+    """Warns of the traps in a script that was run."""
+    if asked.after is None:
+        text = _text_of(asked.script)
+        sys.stderr.write(traps.warnings_of(text, Names(text.split("\n"))))
+
+
+def _run_plainly(words: list[str]) -> int:
+    """Runs the program on its own words."""
+    status = program.hand_on(["run", *words])
+    if status in (faults.DONE, faults.NOT_SO):
+        _warn(COMMAND.parse(words))
+    return status
+
+
 def main(words: list[str]) -> int:
     """Runs `run`."""
+    flags = words[: words.index("--")] if "--" in words else words
+    if not {"--open", "--json"} & set(flags):
+        return _run_plainly(words)
     asked = COMMAND.parse(words)
     if asked.quiet and asked.json:
         raise COMMAND.refuse("the argument '--quiet' cannot be used with '--json'")
@@ -153,7 +194,8 @@ def main(words: list[str]) -> int:
         raise COMMAND.refuse("the argument '--quiet' needs '--journal <FILE>' or '--expect'")
     with tempfile.TemporaryDirectory(prefix="nuvatsimo-") as room:
         run = Run(asked, room)
-        report = Report(Source(run.journal, run.journal)) if asked.open else None
+        source = Source(run.journal, run.journal)
+        report = Report(source, _names_in(asked.script)) if asked.open else None
         run.hand_journal_to(asked.journal)
     if asked.json:
         sys.stdout.writelines(json_of(run.listing, report))
@@ -164,4 +206,5 @@ def main(words: list[str]) -> int:
             sys.stdout.writelines(f"{line}\n" for line in report.lines())
     sys.stdout.flush()
     sys.stderr.write(run.error)
+    _warn(asked)
     return run.status

@@ -14,7 +14,9 @@ from nuvatsimo import faults, journal
 from nuvatsimo.calls import Ended, Made, end_by, made_by
 from nuvatsimo.journal import Entry, Source
 from nuvatsimo.messages import Sent, Undelivered
-from nuvatsimo.texts import holder_of, json_line, lock_of
+from nuvatsimo.names import OPTION, Names, names_of
+from nuvatsimo.taken import Gone, TakenLocks
+from nuvatsimo.texts import holder_of, host_of, json_line, lock_of
 from nuvatsimo.ways import Outlook, Way, names
 from nuvatsimo.words import Argument, Command, Option
 
@@ -25,7 +27,7 @@ COMMAND = Command(
         Argument("journal", "JOURNAL", "The journal: a file of lines, or - for standard input"),
         Argument("call", "CALL", "The call, by its name in replies and history, as 2.1.3"),
     ),
-    (Option("--json", "Print the text as JSON"),),
+    (Option("--json", "Print the text as JSON"), OPTION),
     """\
 The journal is audited first. Where its entries are no run, the text is 'audit no K', as
 of 'lockreplay audit' (exit status 1).
@@ -39,6 +41,7 @@ third call there. Each entry that has to do with the call is told (exit status 0
   reply: ..                                 its reply
   goes: file F LOCK, stays: file F LOCK     what a close, an exit, an unlock frees and leaves
   not delivered: ..                         a message about it that did not come
+  lock of ..: dropped at entry K by ..       when the lock that it took went, and by what
   ended at entry K, gone since entry K      its process exits there, its node fails there
   history: at entry 13 (its reply)          where the one order has it
 Up to the reply it also has failures and starts of its node, of its file's server, and of
@@ -47,6 +50,8 @@ name, the text is 'no call CALL' (exit status 1).
 """,
 )
 _FREEING = ("close", "exit", "unlock")
+# So many parts of a lock are told, as the program is asked when each of them went.
+_MOST_PARTS = 4
 _ROLES = {
     (True, True): "its call and reply",
     (True, False): "its call",
@@ -69,14 +74,14 @@ class Told:
         self.stays: list[str] = []
         self.sends: list[tuple[Sent, Optional[str], Optional[str]]] = []
 
-    def lines(self) -> Iterator[str]:
+    def lines(self, names: Names) -> Iterator[str]:
         """Yields its lines."""
-        yield f"entry {self.position}: {self._happening()}"
+        yield f"entry {self.position}: {self._happening(names)}"
         yield from (f"  the server hears that {host} failed" for host in self.heard)
         if self.reply is not None:
             yield f"  reply: {self.reply}"
-        yield from (f"  goes: {lock}" for lock in self.goes)
-        yield from (f"  stays: {lock}" for lock in self.stays)
+        yield from (f"  goes: {_named_lock(lock, names)}" for lock in self.goes)
+        yield from (f"  stays: {_named_lock(lock, names)}" for lock in self.stays)
         for sent, in_way, may_be_gone in self.sends:
             yield f"  sends message {sent.number} to {sent.to}: {sent.text}"
             if in_way is not None:
@@ -100,12 +105,18 @@ class Told:
         told["sends"] = [_document_of(*sent) for sent in self.sends]
         return told
 
-    def _happening(self) -> str:
+    def _happening(self, names: Names) -> str:
         if self.made is not None:
-            return self.made.text()
+            return self.made.text(names)
         if self.comes is not None:
             return f"message {self.comes.number} comes to {self.comes.to}"
         return self.event
+
+
+def _named_lock(text: str, names: Names) -> str:
+    """Returns `file F LOCK` with the name of the file, if it has one."""
+    _, file, lock = text.split(" ", 2)
+    return f"{names.numbered_file(int(file))} {lock}"
 
 
 def _file_lock(text: str) -> dict[str, Any]:
@@ -138,6 +149,9 @@ class Story:
         self._sent = 0
         self._numbers: dict[str, int] = {}
         self._locks: dict[str, str] = {}
+        self._host = host_of(outlook.call)
+        self._taken = TakenLocks()
+        self.gone: list[Gone] = []
 
     def take(self, entry: Entry) -> None:
         """Takes an entry."""
@@ -161,10 +175,19 @@ class Story:
             if names(sent.text, self.call):
                 self.undelivered.send(sent.number, sent.text)
         self._way.take(entry)
+        self._follow(entry)
+
+    def _follow(self, entry: Entry) -> None:
+        """Takes note of locks of the call that go by an entry of its node."""
+        names = entry.event.split(" ", 2)[1:2] + [entry.answered or ""]
+        if any(name == self._host or name.startswith(f"{self._host}.") for name in names):
+            gone = self._taken.take(entry)
+            self.gone += [part for part in gone if part.lock.call == self.call]
 
     def ask(self, source: Source, place: Optional[int]) -> None:
-        """Takes where the history has the call, and asks which locks it frees."""
+        """Takes where the history has the call, and asks which locks it frees, or when its go."""
         self.place = place
+        self.gone = [part for part in self.gone[:_MOST_PARTS] if part.is_so(source)]
         if self.made is None or self.made.op.partition(" ")[0] not in _FREEING:
             return
         told = next((told for told in self.entries if told.reply is not None), None)
@@ -174,12 +197,13 @@ class Story:
             told.goes = [lock for lock in before if lock not in behind]
             told.stays = [lock for lock in behind if lock not in before]
 
-    def lines(self) -> Iterator[str]:
+    def lines(self, names: Names) -> Iterator[str]:
         """Yields the lines of the text."""
         yield f"call {self.call}"
         for told in self.entries:
-            yield from told.lines()
+            yield from told.lines(names)
         yield from (sent.undelivered() for sent in self.undelivered.sent())
+        yield from (part.text(names) for part in self.gone)
         if self.place is not None:
             yield f"history: at entry {self.place} ({self._role()})"
         else:
@@ -193,6 +217,7 @@ class Story:
             "call": self.call,
             "entries": [told.document() for told in self.entries],
             "undelivered": [sent.document() for sent in self.undelivered.sent()],
+            "lock_gone": [part.document() for part in self.gone],
             "history": history,
             "ended": self.ended.document() if is_ended and self.ended is not None else None,
         }
@@ -254,5 +279,6 @@ def main(words: list[str]) -> int:
     if asked.json:
         sys.stdout.write(json_line(story.document()))
     else:
-        sys.stdout.writelines(f"{line}\n" for line in story.lines())
+        names = names_of(asked.journal, asked.names)
+        sys.stdout.writelines(f"{line}\n" for line in story.lines(names))
     return faults.DONE

@@ -27,6 +27,10 @@ class Descriptors:
         owner = f"p{call.pid}" if kind == "proc" else f"d{number}"
         return self._files[number], f"{owner}@{self._host}"
 
+    def users(self, number: int) -> list[str]:
+        """Returns the processes that have a descriptor of an open file description."""
+        return [pid for pid, of_it in self._processes.items() if number in of_it.values()]
+
     def take(self, call: Call) -> list[Place]:
         """Takes a call with its reply. Returns the places whose locks go by it."""
         words = call.operation.split(" ")
