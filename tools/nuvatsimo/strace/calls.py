@@ -281,6 +281,12 @@ def open_in(name: str, arguments: str, told: Optional[str]) -> tuple[str, str]:
     return path, "w" if name == "creat" else _access_in(flags)
 
 
+def program_in(arguments: str) -> Optional[str]:
+    """Returns the last part of the path that an `execve` or `execveat` executes."""
+    path = arguments.partition('"')[2].partition('"')[0]
+    return path.rstrip("/").rpartition("/")[2] or None
+
+
 def _directory_in(arguments: str) -> tuple[str, str]:
     """Returns the directory of an `openat` or `openat2`, and the arguments behind it."""
     found = re.search("[,<]", arguments)

@@ -59,7 +59,9 @@ class ClosesRange(NamedTuple):
 
 
 class Executes(NamedTuple):
-    """It runs another program."""
+    """It runs another program, of this name if the name is understood."""
+
+    program: Optional[str]
 
 
 class Forks(NamedTuple):
@@ -113,6 +115,19 @@ Happening = Union[
 ]  # fmt: skip
 
 NOTHING = Nothing()
+
+
+class Step(NamedTuple):
+    """What happens to a process or thread, in a line of the recording.
+
+    `begin` is the line where the call began by which it happens.
+    """
+
+    line: int
+    pid: int
+    happening: Happening
+    begin: int
+
 
 # By the kind of a happening the word in the name of the method that takes it, as `_take_open`.
 _TAKEN_BY = {

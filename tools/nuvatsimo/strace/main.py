@@ -6,7 +6,8 @@ import re
 import sys
 from typing import Optional
 
-from nuvatsimo import faults
+from nuvatsimo import faults, traps
+from nuvatsimo.names import Names
 from nuvatsimo.strace.history import History, NoLocks, Recording, history_of
 from nuvatsimo.strace.lines import MOST_NUMBER
 from nuvatsimo.strace.script import Script, script_of
@@ -39,6 +40,11 @@ is no such list, or a NODE is past N, no script is made (exit status 3).
 
 What is not served is told on standard error, by the line of RECORDING, the first hundred
 times, and then how often more. The script has the other lines, and the exit status is 1.
+Standard error also warns of each close that drops a lock which another descriptor of
+the file had taken.
+
+With --names TABLE a table of the names of files and processes is written too. Commands
+that read the journal of the script take it: 'lockreplay explain', open, picture, stats.
 
 With --history the text is a history of clients, for 'lockreplay judge', of what the
 processes saw; there are no nodes then. Each line of RECORDING needs its time since 1970
@@ -69,11 +75,12 @@ COMMAND = Command(
         ),
         Option("--place", "Place recorded processes by hand, as 10=1,12=2", "PLACES"),
         Option("--history", "Make a history of clients, for 'lockreplay judge'"),
+        Option("--names", "Write the names of files and processes to TABLE", "TABLE"),
     ),
     _HELP,
 )
 _APART = (
-    "there is one RECORDING, or with '--history' several, and no '--nodes' or '--place'"
+    "there is one RECORDING, or with '--history' several, and no '--nodes', '--place' or '--names'"
 )
 _NO_PLACES = (
     "--place PLACES: expected PID=NODE,.. with PIDs from 1 to 4294967295 and nodes from 1 to 64"
@@ -92,10 +99,24 @@ def main(words: list[str]) -> int:
     """Runs the command with the words behind it."""
     parsed = COMMAND.parse(words)
     made = _history(parsed) if parsed.history else _script(parsed)
+    warnings = "" if isinstance(made, History) else _told_beside(made, parsed.names)
     if made.notes:
-        raise faults.Fault(faults.NOT_SO, made.notes, made.text)
+        raise faults.Fault(faults.NOT_SO, made.notes + warnings, made.text)
     sys.stdout.write(made.text)
+    sys.stdout.flush()
+    sys.stderr.write(warnings)
     return faults.DONE
+
+
+def _told_beside(script: Script, table: Optional[str]) -> str:
+    """Writes the table of names where one is asked for, and returns warnings of the script."""
+    if table is not None:
+        try:
+            with open(table, "w", encoding="utf-8", newline="\n") as file:
+                file.writelines(f"{line}\n" for line in script.names)
+        except OSError as error:
+            raise faults.cannot_write(table, faults.reason_of(error)) from None
+    return traps.warnings_of(script.text, Names(script.names), script.origins)
 
 
 def _script(parsed: Parsed) -> Script:
@@ -125,7 +146,7 @@ def _placings_in(places: Optional[str]) -> dict[int, int]:
 
 def _history(parsed: Parsed) -> History:
     """Makes a history of all recordings."""
-    if parsed.nodes != 1 or parsed.place is not None:
+    if parsed.nodes != 1 or parsed.place is not None or parsed.names is not None:
         raise COMMAND.refuse(_APART)
     is_alone = len(parsed.recordings) == 1
     read = [_read(word, is_alone) for word in parsed.recordings]

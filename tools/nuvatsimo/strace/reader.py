@@ -1,9 +1,9 @@
 """Reads the events of a recording, as `strace -f` writes it.
 
 A process or thread is made, descriptors are closed and a program is executed where the call
-begins; a file is opened where it returns. A lock that was got is asked for where the call
-returns, as is what is in the way. Any other lock call, and one without an end, stands where it
-begins. Other calls are passed over.
+begins; a file is opened where it returns. A lock that a set got is asked for where the call
+returns, as is what is in the way. Any other lock call, as a wait, and one without an end, stands
+where it begins. Other calls are passed over.
 """
 
 from __future__ import annotations
@@ -215,13 +215,13 @@ class _Reader:
     def _end_asked(self, line: int, pid: int, event: Event, passed: SystemCall) -> None:
         """Takes the end of a lock call that set a lock or none.
 
-        A lock that was got is asked for here, and any other where the call began. A process that
-        was killed in its call got no answer.
+        A lock that a set got is asked for here, and any other where the call began. A process
+        that was killed in its call got no answer.
         """
         fd, asked, _ = event.happening
         gave = passed.gave
         asks = Asks(fd, asked, calls.answer_in(asked.wish, gave))
-        if asked.wish != "unlock" and gave == "0":
+        if asked.wish == "set" and gave == "0":
             event.happening = NOTHING
             self._push(line, pid, asks, passed)
         else:
@@ -281,7 +281,7 @@ def _begun_in(name: str, arguments: str) -> Optional[Happening]:
     if name in calls.FORKS:
         return Unserved(NO_END)
     if name in calls.EXECS:
-        return Executes()
+        return Executes(calls.program_in(arguments))
     if name == "close_range":
         return calls.close_range_in(arguments)
     return Exits(True) if name == "exit_group" else None

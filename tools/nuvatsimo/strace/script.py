@@ -4,6 +4,7 @@ from __future__ import annotations
 
 from typing import NamedTuple, Optional
 
+from nuvatsimo.names import quoted
 from nuvatsimo.strace.happenings import (
     EXECUTES,
     LEFT_OUT,
@@ -13,10 +14,10 @@ from nuvatsimo.strace.happenings import (
     TOO_MANY_FILES,
     TOO_MANY_PROCESSES,
     GivesUp,
-    Happening,
     LockCall,
     Notes,
     Nothing,
+    Step,
     takers_of,
 )
 from nuvatsimo.strace.processes import (
@@ -27,15 +28,31 @@ from nuvatsimo.strace.processes import (
     Threads,
 )
 from nuvatsimo.strace.reader import events_of
+from nuvatsimo.strace.waits import Asked, Waits
 
 MOST_FILES = 256
 
 
 class Script(NamedTuple):
-    """The text of a script, and the notes on what is left out of it."""
+    """The lines of a script, and the notes on what is left out of it.
 
-    text: str
+    Behind each line stands the one of the recording that it is of. `names` are the lines that tell
+    the names of its files and processes.
+    """
+
+    lines: list[tuple[str, int]]
     notes: str
+    names: list[str]
+
+    @property
+    def text(self) -> str:
+        """The text of the script."""
+        return "".join(f"{line}\n" for line, _ in self.lines)
+
+    @property
+    def origins(self) -> list[int]:
+        """The lines of the recording that its lines are of."""
+        return [origin for _, origin in self.lines]
 
 
 def script_of(recording: str, nodes: int, placings: dict[int, int]) -> Script:
@@ -48,26 +65,21 @@ def script_of(recording: str, nodes: int, placings: dict[int, int]) -> Script:
     looked.take_all(steps)
     files = looked.locked
     made = _Scripting(nodes, placings, files, len(files) == MOST_FILES)
-    made.take_all(steps)
+    made.take_all(looked.waits.moved(steps))
     empty = (node for node in range(1, nodes + 1) if node not in made.used_nodes)
     notes = made.notes.text() + "".join(f"node {node} has no process\n" for node in empty)
-    names = [f"# file {number} is {path}" for path, number in files.items()]
-    front = [f"cluster nodes {nodes} files {max(1, len(files))} policy wide", *names]
-    return Script("\n".join([*front, *made.lines, ""]), notes)
-
-
-class Step(NamedTuple):
-    """What happens to a process or thread, in a line of the recording."""
-
-    line: int
-    pid: int
-    happening: Happening
+    names = [f"file {number} is {quoted(path)}" for path, number in files.items()]
+    front = [f"cluster nodes {nodes} files {max(1, len(files))} policy wide"]
+    front += [f"# {name}" for name in names]
+    names += [line[2:] for line in made.lines if line.startswith("# process ")]
+    lines = [*zip(front, [0] * len(front)), *zip(made.lines, made.origins)]
+    return Script(lines, notes, names)
 
 
 def _steps_of(recording: str) -> list[Step]:
     """Returns what happens in a recording. How the calls passed is left out."""
     return [
-        Step(event.line, event.pid, event.happening)
+        Step(event.line, event.pid, event.happening, event.passed.begin)
         for event in events_of(recording)
         if not isinstance(event.happening, Nothing)
     ]
@@ -103,21 +115,34 @@ class _Scripting:
         self._waiting: list[Place] = []
         self.locked: dict[str, int] = {}
         self.used_nodes: set[int] = set()
+        # By the PIDs of processes the programs that they run, and where the script names them.
+        self._programs: dict[int, str] = {}
+        self._named_at: dict[int, int] = {}
+        self._number = 0
+        self._line = 0
         self.lines: list[str] = []
+        # The lines of the recording that those are of.
+        self.origins: list[int] = []
+        self.waits = Waits()
         self.notes = Notes()
         self._takers = takers_of(self)
 
     def take_all(self, steps: list[Step]) -> None:
         """Takes the steps, in order."""
         process_of = self._threads.process_of
-        for step in steps:
+        for self._number, step in enumerate(steps):
+            self._line = step.line
             self._takers[type(step.happening)](step, process_of(step.pid))
+
+    def _add(self, *lines: str) -> None:
+        self.lines += lines
+        self.origins += [self._line] * len(lines)
 
     def _take_unserved(self, step: Step, pid: int) -> None:
         self.notes.add(step.line, step.happening.reason)
 
     def _call(self, place: Place, words: str) -> None:
-        self.lines.append(f"call {place.node} {place.number} {words}")
+        self._add(f"call {place.node} {place.number} {words}")
 
     # Begins and ends of processes.
 
@@ -138,7 +163,12 @@ class _Scripting:
 
     def _tell_begin(self, place: Place, pid: int) -> None:
         self.used_nodes.add(place.node)
-        self.lines.append(f"# process {place.number} of node {place.node} is PID {pid}")
+        self._named_at[pid] = len(self.lines)
+        self._add(f"# process {place.number} of node {place.node} is {self._name_of(pid)}")
+
+    def _name_of(self, pid: int) -> str:
+        program = self._programs.get(pid)
+        return f"{quoted(program)}, PID {pid}" if program else f"PID {pid}"
 
     def _leave_out(self, line: int, pid: int, reason: str) -> None:
         self.notes.add(line, reason)
@@ -147,6 +177,8 @@ class _Scripting:
     def _take_fork(self, step: Step, pid: int) -> None:
         child, shares = step.happening
         self._free(child)
+        if pid in self._programs:
+            self._programs[child] = self._programs[pid]
         parent = self._processes.running(pid)
         if pid in self._left:
             self._leave_out(step.line, child, LEFT_OUT)
@@ -183,6 +215,8 @@ class _Scripting:
     def _finish(self, pid: int) -> None:
         """The process exits, with its threads, its descriptors and its waits."""
         self._left.discard(pid)
+        self._programs.pop(pid, None)
+        self._named_at.pop(pid, None)
         self._threads.remove_of(pid)
         place = self._processes.end(pid)
         if place is not None:
@@ -253,6 +287,15 @@ class _Scripting:
         process = self._processes.running(pid)
         if process is not None and process.has_scripted():
             self.notes.add(step.line, EXECUTES)
+        if step.happening.program is not None:
+            self._programs[pid] = step.happening.program
+            self._name_again(pid)
+
+    def _name_again(self, pid: int) -> None:
+        """The process of the script has a name by the last program that it runs."""
+        at = self._named_at.get(pid)
+        if at is not None:
+            self.lines[at] = f"{self.lines[at].partition(' is ')[0]} is {self._name_of(pid)}"
 
     def _held(self, pid: int, fd: int) -> Optional[OpenDescriptor]:
         process = self._processes.running(pid)
@@ -263,6 +306,8 @@ class _Scripting:
     def _take_ask(self, step: Step, pid: int) -> None:
         fd, asked, answer = step.happening
         held = self._held(pid, fd)
+        if held is not None:
+            self.waits.ask(self._number, step, Asked(pid, held.path, asked, answer))
         if pid in self._left:
             self.notes.add(step.line, LEFT_OUT)
         elif held is None:
@@ -283,21 +328,25 @@ class _Scripting:
             return
         self._call(process.place, lock_text(held.slot, asked))
         if answer is not None:
-            self.lines.append(f"# expect {answer}")
+            self._add(f"# expect {answer}")
         if asked.wish == "wait":
             self._waiting.append(process.place)
 
     def _take_return(self, step: Step, pid: int) -> None:
         """A lock call returned: messages are delivered, and open waits tried again."""
+        self.waits.back(self._number, step)
         process = self._processes.running(pid)
         held = self._held(pid, step.happening.fd)
         if process is None or held is None or held.slot is None:
             return
         node, number = process.place
-        if isinstance(step.happening, GivesUp):
-            self.lines.append(f"interrupt {node} {number}")
+        is_late = step.begin != step.line and process.place in self._waiting
         self._stop_waiting(process.place)
-        self.lines.append("settle")
-        if self._waiting:
-            self.lines += [f"retry {place.node} {place.number}" for place in self._waiting]
-            self.lines.append("settle")
+        retried = list(self._waiting)
+        if isinstance(step.happening, GivesUp):
+            self._add(f"interrupt {node} {number}")
+        elif is_late:
+            retried.insert(0, process.place)
+        self._add("settle")
+        if retried:
+            self._add(*(f"retry {place.node} {place.number}" for place in retried), "settle")
