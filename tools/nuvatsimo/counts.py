@@ -13,6 +13,7 @@ from typing import Any
 from nuvatsimo import faults, journal
 from nuvatsimo.calls import LockCall, LockCalls
 from nuvatsimo.journal import Entry
+from nuvatsimo.names import OPTION, Names, names_of
 from nuvatsimo.texts import EVENT_KINDS, MESSAGE_KINDS, json_line, span_of
 from nuvatsimo.words import Argument, Command, Option
 
@@ -43,7 +44,7 @@ COMMAND = Command(
     "stats",
     "Count what a journal has",
     (Argument("journal", "JOURNAL", "The journal: a file of lines, or - for standard input"),),
-    (Option("--json", "Print the text as JSON"),),
+    (Option("--json", "Print the text as JSON"), OPTION),
     """\
 The journal is audited first. Where its entries are no run, the text is 'audit no K', as
 of 'lockreplay audit' (exit status 1). Else the text has how many entries there are of each
@@ -151,7 +152,7 @@ class Counts:
         return found
 
 
-def text_lines(counts: Counts) -> Iterator[str]:
+def text_lines(counts: Counts, names: Names) -> Iterator[str]:
     """Yields the lines of the text."""
     yield "entries"
     for kind, count in counts.events.items():
@@ -161,7 +162,7 @@ def text_lines(counts: Counts) -> Iterator[str]:
         yield f"{kind:<14}{count:>10}{counts.delivered[kind]:>10}"
     heading = f"{'first':>19} {'last':>19} " + " ".join(f"{name:>8}" for name in COLUMNS)
     for number, file in sorted(counts.files.items()):
-        yield f"file {number} messages {file.messages}"
+        yield f"{names.numbered_file(number)} messages {file.messages}"
         yield heading
         for lo, hi, numbers in file.rows():
             yield f"{lo:>19} {hi:>19} " + " ".join(f"{count:>8}" for count in numbers)
@@ -192,5 +193,6 @@ def main(words: list[str]) -> int:
     if asked.json:
         sys.stdout.write(json_line(document_of(counts)))
     else:
-        sys.stdout.writelines(f"{line}\n" for line in text_lines(counts))
+        names = names_of(asked.journal, asked.names)
+        sys.stdout.writelines(f"{line}\n" for line in text_lines(counts, names))
     return faults.DONE

@@ -56,7 +56,7 @@ class Places(unittest.TestCase):
         )
 
     def test_cycle(self) -> None:
-        self.assertEqual([["1.1.3", "2.1.4"]], cycles_of(self.world))
+        self.assertEqual([(["1.1.3", "2.1.4"], True)], cycles_of(self.world, lambda owner: [owner]))
 
 
 class States(unittest.TestCase):

@@ -5,7 +5,8 @@ from __future__ import annotations
 from nuvatsimo.journal import Entry
 from nuvatsimo.texts import TO_NODES, actor_of, file_of, node_of
 
-RULES = ("declare", "restart", "learn", "fail-server", "start-server")
+# Where a node or a server fails or begins again.
+RULES = ("declare", "restart", "fail-server", "start-server")
 _AT_SERVERS = ("resend", "learn", "fail-server", "start-server")
 
 

@@ -27,11 +27,15 @@ def drawn(part: Part, sheet: Sheet) -> Iterator[str]:
         behind = part.blockers.get(call.name)
         title = f"{call.name} {call.operation}: {call.outcome}"
         title += f", behind {behind}" if behind else ""
+        cycle = part.cycles.get(call.name)
+        title += f", in a {cycle}" if cycle else ""
         x, top = sheet.x(call.position), sheet.top(call.process)
         over = sheet.window.last + 1 if call.over_at is None else call.over_at
         width = max(sheet.x(over) - x, 0) + 8
-        label = svg.label("op", x + 11, top + 20, _label(call, _why(call, behind), room))
-        yield svg.titled(title, svg.box(_kind_of(call), x, top + 8, width, 18) + label)
+        why = "in a cycle of waits" if cycle else svg.shown(_why(call, behind))
+        label = svg.label("op", x + 11, top + 20, _label(call, why, room))
+        kind = _kind_of(call) + (" cycle" if cycle else "")
+        yield svg.titled(svg.shown(title), svg.box(kind, x, top + 8, width, 18) + label)
 
 
 def _with_rooms(part: Part, sheet: Sheet) -> list[tuple[Call, int]]:
@@ -64,6 +68,7 @@ def _label(call: Call, why: str, room: int) -> str:
     """Returns the first of the labels that has room: shorter ones come later."""
     word = call.operation.partition(" ")[0]
     is_why_shown = why and _LETTER * (len(word) + len(why)) <= room
-    letters = len(call.operation) + (len(why) if is_why_shown else 0)
-    text = call.operation if _LETTER * letters <= room else word
+    operation = svg.shown(call.operation)
+    letters = len(operation) + (len(why) if is_why_shown else 0)
+    text = operation if _LETTER * letters <= room else word
     return f"{text} {why}" if is_why_shown else text

@@ -4,6 +4,7 @@ from __future__ import annotations
 
 from collections.abc import Iterator
 
+from nuvatsimo.names import Names
 from nuvatsimo.pictures import svg
 from nuvatsimo.pictures.part import Part
 from nuvatsimo.pictures.sheet import TRACK, Sheet
@@ -13,15 +14,20 @@ from nuvatsimo.texts import GREATEST
 # The room that the marks have which begin at one entry.
 _ROOM = 58
 _COLOURS = 8
+# How wide a letter of a heading is.
+_LETTER = 8
 
 
-def drawn(part: Part, sheet: Sheet) -> Iterator[str]:
+def drawn(part: Part, sheet: Sheet, names: Names) -> Iterator[str]:
     """Draws the headings of files, and the shares of nodes."""
     for number, track in enumerate(part.tracks):
         top = sheet.tracks_top + TRACK * number
         if isinstance(track, int):
-            name = svg.label("lane", 12, top + 12, f"file {track}")
-            yield name + f"<use href='#key' x='100' y='{top}'/>\n"
+            told = names.of_file(track)
+            text = f"file {track}" + (f": {told}" if told else "")
+            key = max(100, 20 + _LETTER * len(text))
+            name = svg.label("lane", 12, top + 12, svg.shown(text))
+            yield name + f"<use href='#key' x='{key}' y='{top}'/>\n"
         else:
             yield from _share(sheet, top, track)
 

@@ -8,6 +8,7 @@ from typing import Optional
 
 from nuvatsimo import faults
 from nuvatsimo.journal import Source, opened
+from nuvatsimo.names import OPTION, Names, names_of
 from nuvatsimo.pictures.drawing import picture
 from nuvatsimo.pictures.mermaid import diagram
 from nuvatsimo.pictures.overview import Overview, count_of, overview
@@ -29,7 +30,8 @@ In SVG, time is entries, from left to right. It has a row for each node, server 
 process that takes part, a bar for each call from its entry to its reply, an arrow for
 each message that comes, a short line for each that is not delivered, a diamond where the
 history places a call, and a line across where a node or a server fails or begins again.
-Below the rows it shows who held which bytes.
+The row of a dead one is broken, and a bar in a cycle of waits is framed in red. Below the
+rows it shows who held which bytes. More than 40 entries are folded, 20 in a fold.
 
 With --from K and --to L the entries from K to L are drawn, with --around CALL those
 from ten before the first that has to do with the call to ten behind the last; with
@@ -50,6 +52,7 @@ COMMAND = Command(
             "--to", "Draw no entry behind entry L, counted from 1", "L", number(1), NUMBER_MAX
         ),
         Option("--format", "Draw it as svg or mermaid", "FORMAT", str, "svg"),
+        OPTION,
     ),
     _HELP,
 )
@@ -65,7 +68,7 @@ def main(words: list[str]) -> int:
         value = "invalid value for '--format <FORMAT>'"
         raise COMMAND.refuse(f"{value}: it is svg or mermaid")
     with opened(asked.journal) as source:
-        pieces, lack = _drawn(source, asked)
+        pieces, lack = _drawn(source, asked, names_of(asked.journal, asked.names))
     for piece in pieces:
         sys.stdout.write(piece)
     sys.stdout.flush()
@@ -75,7 +78,9 @@ def main(words: list[str]) -> int:
     return faults.NOT_SO
 
 
-def _drawn(source: Source, asked: Parsed) -> tuple[Iterator[str], Optional[str]]:
+def _drawn(
+    source: Source, asked: Parsed, names: Names
+) -> tuple[Iterator[str], Optional[str]]:
     """Returns the pieces of a picture, and the line that tells what it lacks, or None."""
     window = Window(getattr(asked, "from"), asked.to)
     is_whole = asked.around is None and window == (1, NUMBER_MAX) and asked.format == "svg"
@@ -88,8 +93,8 @@ def _drawn(source: Source, asked: Parsed) -> tuple[Iterator[str], Optional[str]]
     shown = Window(window.first, min(window.last, window.first + MOST_DRAWN - 1))
     part = Part(shown)
     part.read(source, has_holders=asked.format == "svg")
-    pieces = picture(part, history) if asked.format == "svg" else diagram(part, history)
-    return pieces, _lack_of(window, shown, part.count)
+    drawn = picture if asked.format == "svg" else diagram
+    return drawn(part, history, names), _lack_of(window, shown, part.count)
 
 
 def _drawn_over(source: Source, count: int) -> tuple[Iterator[str], str]:

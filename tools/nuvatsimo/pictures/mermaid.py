@@ -6,22 +6,23 @@ from collections.abc import Iterator
 from typing import Optional
 
 from nuvatsimo.journal import Entry
+from nuvatsimo.names import Names
 from nuvatsimo.pictures.actors import sender_of, taker_of
 from nuvatsimo.pictures.part import IS_UNDELIVERED, Part
 from nuvatsimo.pictures.sheet import Sheet
 from nuvatsimo.texts import actor_of, call_of, holder_of, node_of
 
 
-def diagram(part: Part, history: dict[str, int]) -> Iterator[str]:
+def diagram(part: Part, history: dict[str, int], names: Names) -> Iterator[str]:
     """Yields the diagram in pieces. `history` has the entry at which it has each call."""
     actors = [row for row in Sheet(part).rows if not row.startswith("process ")]
     placed = {position: call for call, position in history.items()}
     yield "sequenceDiagram\n"
     for actor in actors:
-        yield f"    participant {_short(actor)} as {actor}\n"
+        yield f"    participant {_short(actor)} as {_named(actor, names)}\n"
     everyone = f"{_short(actors[0])},{_short(actors[-1])}" if actors else ""
     for entry in part.entries:
-        yield from _event(part, entry, everyone, placed.get(entry.position))
+        yield from _event(part, entry, everyone, placed.get(entry.position), names)
         yield from _told(entry, placed.get(entry.position))
         for message in entry.sends:
             if part.fate_of(entry.position, message) == IS_UNDELIVERED:
@@ -34,17 +35,33 @@ def _short(actor: str) -> str:
     return f"{kind[0].upper()}{number}"
 
 
+def _named(actor: str, names: Names) -> str:
+    """Returns an actor, and behind a server the name of its file."""
+    kind, _, number = actor.partition(" ")
+    name = names.of_file(int(number)) if kind == "server" else None
+    return f"{actor} ({_plain(name)})" if name else actor
+
+
+def _plain(name: str) -> str:
+    """Returns a name without what Mermaid reads as its own."""
+    return "".join("?" if letter in "#;:%" else letter for letter in name)
+
+
 def _note(actor: str, text: str) -> str:
     return f"    Note over {actor}: {text}\n"
 
 
-def _event(part: Part, entry: Entry, everyone: str, placed: Optional[str]) -> Iterator[str]:
+def _event(
+    part: Part, entry: Entry, everyone: str, placed: Optional[str], names: Names
+) -> Iterator[str]:
     """Tells the event of an entry: the history has the call `placed` there."""
     kind = entry.kind
     if kind == "call":
         _, call, pid, operation = entry.event.split(" ", 3)
         reply = f": {_reply(entry, placed)}" if entry.answered == call else ""
-        yield _note(f"N{node_of(call)}", f"p{pid} {operation} ({call}){reply}")
+        name = names.of_process(node_of(call), int(pid))
+        caller = f"p{pid} ({_plain(name)})" if name else f"p{pid}"
+        yield _note(f"N{node_of(call)}", f"{caller} {operation} ({call}){reply}")
     elif entry.comes is not None:
         if entry.position in part.origins:
             yield _message(entry.comes, "->>")

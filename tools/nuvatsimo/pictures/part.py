@@ -6,10 +6,12 @@ from collections.abc import Iterable, Iterator
 from typing import NamedTuple, Optional
 
 from nuvatsimo.journal import Entry, Source
+from nuvatsimo.pictures.actors import RULES, taker_of
 from nuvatsimo.pictures.calls import Call, Calls, Step
 from nuvatsimo.pictures.held import Held, Wait
 from nuvatsimo.pictures.stays import Lives, Track
 from nuvatsimo.texts import call_of
+from nuvatsimo.waits import Waits
 
 COMES, IS_LATE, IS_UNDELIVERED = "comes", "is late", "is undelivered"
 
@@ -41,6 +43,11 @@ class Part:
         self.blockers: dict[str, str] = {}
         self.origins: dict[int, int] = {}
         self.tracks: list[Track] = []
+        # By the calls that stood in cycles of waits, what each such cycle is.
+        self.cycles: dict[str, str] = {}
+        # By actors the stretches where each was dead: its first place, and the one behind it.
+        self.deaths: dict[str, list[tuple[int, int]]] = {}
+        self._dead: dict[str, int] = {}
         self._sent: dict[str, int] = {}
         self._watched: set[str] = set()
         self._comes: dict[str, int] = {}
@@ -56,6 +63,7 @@ class Part:
         """Reads an audited journal: with what nodes hold, where the picture shows that."""
         calls = Calls()
         holders = _Holders(source, self.window) if has_holders else None
+        waits = Waits()
         is_begun = False
         for entry in source.entries(is_audited=True):
             self.count = entry.position
@@ -65,7 +73,10 @@ class Part:
             step = calls.take(entry)
             if holders is not None and entry.position <= self.window.last:
                 holders.take(entry, step)
+                waits.take(entry)
+                self._note_death(entry)
             self._take(entry, step)
+        self.cycles = {call: cycle.text() for cycle in waits.cycles for call in cycle.calls}
         self._end(holders)
 
     def _take(self, entry: Entry, step: Step) -> None:
@@ -82,6 +93,18 @@ class Part:
         for message in entry.sends:
             self._sent[message] = position
 
+    def _note_death(self, entry: Entry) -> None:
+        """Takes note of an actor that dies or begins again."""
+        if entry.kind not in RULES:
+            return
+        actor, position = taker_of(entry.event), entry.position
+        if entry.kind in ("declare", "fail-server"):
+            self._dead.setdefault(actor, position)
+        elif actor in self._dead:
+            since = self._dead.pop(actor)
+            if position >= self.window.first:
+                self.deaths.setdefault(actor, []).append((since, position))
+
     def _note_arrival(self, entry: Entry) -> None:
         message = entry.comes
         if message is None:
@@ -94,6 +117,8 @@ class Part:
     def _end(self, holders: Optional[_Holders]) -> None:
         self.window = Window(max(self.window.first, 1), min(self.window.last, self.count))
         first, last = self.window
+        for actor, since in self._dead.items():
+            self.deaths.setdefault(actor, []).append((since, last + 1))
         self.calls = [
             call
             for call in self.calls

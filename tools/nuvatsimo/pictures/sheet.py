@@ -13,6 +13,8 @@ TRACK = 16
 # Behind each entry at a multiple of this place the names of the rows stand again.
 NAMED = 20
 NAMES = 120
+# A picture of more entries is folded.
+FOLDED = 40
 
 
 class Sheet:
@@ -35,6 +37,23 @@ class Sheet:
         shown = min(position, last + 1)
         breaks = max((max(shown - 1, 0)) // NAMED - max(first - 1, 0) // NAMED, 0)
         return LEFT + COLUMN * max(shown + 1 - first, 0) + NAMES * breaks
+
+    def folds(self) -> list[tuple[int, int]]:
+        """Returns the folds: where each begins, and how wide it is.
+
+        A picture of many entries has so many in each that the names of the rows stand in front.
+        """
+        first, last = self.window
+        begins = [0]
+        if last - first + 1 > FOLDED:
+            begins += [
+                self.x(place + 1) - NAMES
+                for place in range(first, last)
+                if place % NAMED == 0 and place - first >= NAMED // 2 and last - place >= NAMED // 2
+            ]
+        return [
+            (left, behind - left) for left, behind in zip(begins, [*begins[1:], self.right + 16])
+        ]
 
     def top(self, row: str) -> int:
         """Returns the top of a row."""

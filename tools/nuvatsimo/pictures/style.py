@@ -10,6 +10,7 @@ text { fill: #1f2430; }
 .again { fill: #7a8194; font-size: 9px; }
 .node { stroke: #1f2430; stroke-width: 1.5; }
 .server { stroke: #1f2430; stroke-width: 1.5; stroke-dasharray: 2 3; }
+.dead { stroke: #c43d3d; stroke-width: 1.5; stroke-dasharray: 1 9; }
 .process { stroke: #c9cdd8; }
 .column { stroke: #e6e8ee; }
 .dot { fill: #1f2430; }
@@ -25,6 +26,7 @@ text { fill: #1f2430; }
 .denied { fill: #fbe3b5; stroke: #b87503; }
 .refused { fill: #f6cccc; stroke: #c43d3d; }
 .open { fill: #eceef3; stroke: #7a8194; stroke-dasharray: 4 2; }
+.cycle { stroke: #c43d3d; stroke-width: 2; }
 .place { fill: #ffffff; stroke: #1f2430; }
 .link { stroke: #1f2430; stroke-dasharray: 1 3; }
 .late { stroke: #7a8194; stroke-dasharray: 8 4; }

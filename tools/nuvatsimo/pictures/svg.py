@@ -2,11 +2,20 @@
 
 from __future__ import annotations
 
+from html import escape
+
+from nuvatsimo.texts import GREATEST
+
 
 def size(width: int, height: int) -> str:
     """Returns what a picture of this size begins with."""
     place = f"width='{width}' height='{height}' viewBox='0 0 {width} {height}'"
     return f"<svg xmlns='http://www.w3.org/2000/svg' {place}>\n"
+
+
+def shown(text: str) -> str:
+    """Returns a text as content of an element. The greatest offset is the end of the file."""
+    return escape(text.replace(str(GREATEST), "end"), quote=False)
 
 
 def line(kind: str, x1: int, y1: int, x2: int, y2: int) -> str:
