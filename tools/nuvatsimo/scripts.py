@@ -206,11 +206,12 @@ def numbered_lines(text: str) -> Iterator[tuple[int, str, bool]]:
         yield number, text[start:], False
 
 
-def read_script(text: str, for_threads: bool = False) -> Script:
-    """Returns the script that a text writes, by default for a run that is not on threads.
+def read_script(text: str, for_schedules: bool = False) -> Script:
+    """Returns the script that a text writes, by default for a run.
 
-    Raises the fault `bad line L` with the first line that may not stand where it does, or that
-    threads don't take where the script is for them.
+    A script for schedules has lines that threads take. Its retries are passed over, since a
+    schedule tries open calls again by itself. Raises the fault `bad line L` with the first line
+    that may not stand where it does.
     """
     shape: Optional[ClusterShape] = None
     lines: list[ScriptLine] = []
@@ -226,7 +227,9 @@ def read_script(text: str, for_threads: bool = False) -> Script:
                 raise faults.bad_line(number)
             continue
         command = command_of(line)
-        is_refused = for_threads and not is_for_threads(line)
+        if for_schedules and isinstance(command, Retry):
+            continue
+        is_refused = for_schedules and not is_for_threads(line)
         if command is None or is_refused or number > GREATEST_LINE:
             raise faults.bad_line(number)
         lines.append(ScriptLine(number, line, command))

@@ -41,7 +41,7 @@ third call there. Each entry that has to do with the call is told (exit status 0
   reply: ..                                 its reply
   goes: file F LOCK, stays: file F LOCK     what a close, an exit, an unlock frees and leaves
   not delivered: ..                         a message about it that did not come
-  lock of ..: dropped at entry K by ..       when the lock that it took went, and by what
+  lock of ..: dropped at entry K by ..      when the lock that it took went, and by what
   ended at entry K, gone since entry K      its process exits there, its node fails there
   history: at entry 13 (its reply)          where the one order has it
 Up to the reply it also has failures and starts of its node, of its file's server, and of

@@ -79,7 +79,7 @@ class Reports(unittest.TestCase):
     """What is told of outcomes."""
 
     def outcomes(self, *answers: str) -> Outcomes:
-        outcomes = Outcomes(TWO_WAITS, scripts.read_script(TWO_WAITS, for_threads=True))
+        outcomes = Outcomes(TWO_WAITS, scripts.read_script(TWO_WAITS, for_schedules=True))
         outcomes.come(("done", "fd 0", *answers)).seeds.append(1)
         return outcomes
 

@@ -27,10 +27,11 @@ SCHEDULE = Command(
         _FAILURES,
     ),
     """\
-The script is one that 'lockreplay threads' takes. The text is the script of the
-schedule of seed N, which 'lockreplay explore' runs: with 'deliver', 'lose' and other
-lines, which say what becomes of each message. 'lockreplay run' replays it. With
---failures a node and a server may fail in it, as with 'lockreplay explore --failures'.
+The script is one that 'lockreplay threads' takes; lines 'retry' are passed over. The
+text is the script of the schedule of seed N, which 'lockreplay explore' runs: with
+'deliver', 'lose' and other lines, which say what becomes of each message. 'lockreplay
+run' replays it. With --failures a node and a server may fail in it, as with
+'lockreplay explore --failures'.
 """,
 )
 
@@ -73,9 +74,9 @@ EXPLORE = Command(
         ),
     ),
     """\
-The script is one that 'lockreplay threads' takes. It is run under COUNT schedules, of
-the seeds from N on. The text tells the distinct outcomes: how often each came, and its
-first seed, whose schedule 'lockreplay schedule' prints.
+The script is one that 'lockreplay threads' takes; lines 'retry' are passed over. It is
+run under COUNT schedules, of the seeds from N on. The text tells the distinct outcomes:
+how often each came, and its first seed, whose schedule 'lockreplay schedule' prints.
 
 The calls up to a line that is no call happen side by side, each process's own in order.
 What comes next is drawn from all that may: of eight messages one is lost, of sixteen that
@@ -112,7 +113,7 @@ _TOGETHER = "'--losses', '--repeats' and '--states' go with '--all', and nothing
 def schedule(words: list[str]) -> int:
     """Runs `schedule`."""
     asked = SCHEDULE.parse(words)
-    script = scripts.read_script(_text_of(asked.script), for_threads=True)
+    script = scripts.read_script(_text_of(asked.script), for_schedules=True)
     made = schedule_of(script, asked.seed, asked.failures)
     sys.stdout.write("".join(f"{line}\n" for line in (script.shape.text, *made.lines)))
     return faults.DONE
@@ -124,7 +125,7 @@ def explore(words: list[str]) -> int:
     if _has_others(asked):
         raise EXPLORE.refuse(_TOGETHER)
     text = _text_of(asked.script)
-    script = scripts.read_script(text, for_threads=True)
+    script = scripts.read_script(text, for_schedules=True)
     outcomes = Outcomes(text, script)
     is_whole = True
     if asked.all:

@@ -26,6 +26,7 @@ the N nodes, in turn; its children are on its node. A node that stays empty is t
   fork, clone, dup                  are as recorded; a thread is its process
   fcntl: a lock that was got        stands where the call returned, and so does a query
   fcntl: another                    stands where it began
+  a wait                            stands where it began, with a retry where it returned
   a wait that a signal ended        is interrupted
   a file                            is its path, as strace -y tells it, or else its open
   a descriptor without an open      is opened rw at its first lock call, where -y tells
