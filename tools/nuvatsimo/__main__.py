@@ -28,13 +28,16 @@ COMMANDS = {
     "help": ("nuvatsimo.help_words", "main", ""),
 }
 
+# What tools/lockreplay asks for behind a `run` of the program. No user gets here by that name.
+INNER = {"warn-of-closes": ("nuvatsimo.run_words", "warn_of_closes", "")}
+
 # Commands of the program, of which the tools do some options.
 SHARED = ("run", "audit", "state", "judge")
 
 
 def function_of(word: str) -> Callable[[list[str]], int]:
     """Returns the function of a command. Its module is imported only now."""
-    module, name, _ = COMMANDS[word]
+    module, name, _ = COMMANDS.get(word) or INNER[word]
     return getattr(importlib.import_module(module), name)
 
 
@@ -54,7 +57,7 @@ def main(words: list[str]) -> int:
     word, *behind = words
     if word in ("-h", "--help"):
         return _guarded("help", [word])
-    if word not in COMMANDS:
+    if word not in COMMANDS and word not in INNER:
         return _guarded("help", ["--", word])
     if word in SHARED and {"-h", "--help"} & set(behind):
         flag = "-h" if "-h" in behind else "--help"

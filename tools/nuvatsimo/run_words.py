@@ -154,7 +154,7 @@ def json_of(listing: str, report: Optional[Report]) -> Iterator[str]:
 def _text_of(script: str) -> str:
     """Returns the text of a script that was run, and none where it can't be read again."""
     try:
-        if os.path.isfile(script):
+        if script != "-" and os.path.isfile(script):
             with open(script, encoding="utf-8", newline="\n") as file:
                 return file.read()
     except (OSError, ValueError):
@@ -167,26 +167,25 @@ def _names_in(script: str) -> Names:
     return Names(_text_of(script).split("\n"))
 
 
-def _warn(asked: Parsed) -> None:
-    """Warns of the traps in a script that was run."""
-    if asked.after is None:
-        text = _text_of(asked.script)
-        sys.stderr.write(traps.warnings_of(text, Names(text.split("\n"))))
+def _warnings_of(asked: Parsed) -> str:
+    """Returns the warnings of a script that was run. Where they can't be found there are none."""
+    if asked.after is not None:
+        return ""
+    text = _text_of(asked.script)
+    try:
+        return traps.warnings_of(text, Names(text.split("\n")))
+    except (OSError, ValueError, MemoryError, faults.Fault):
+        return ""
 
 
-def _run_plainly(words: list[str]) -> int:
-    """Runs the program on its own words."""
-    status = program.hand_on(["run", *words])
-    if status in (faults.DONE, faults.NOT_SO):
-        _warn(COMMAND.parse(words))
-    return status
+def warn_of_closes(words: list[str]) -> int:
+    """Prints the warnings of a script that the program ran by these words."""
+    sys.stdout.write(_warnings_of(COMMAND.parse(words[1:])))
+    return faults.DONE
 
 
 def main(words: list[str]) -> int:
-    """Runs `run`."""
-    flags = words[: words.index("--")] if "--" in words else words
-    if not {"--open", "--json"} & set(flags):
-        return _run_plainly(words)
+    """Runs `run --open` and `run --json`."""
     asked = COMMAND.parse(words)
     if asked.quiet and asked.json:
         raise COMMAND.refuse("the argument '--quiet' cannot be used with '--json'")
@@ -205,6 +204,5 @@ def main(words: list[str]) -> int:
             sys.stdout.write("open\n")
             sys.stdout.writelines(f"{line}\n" for line in report.lines())
     sys.stdout.flush()
-    sys.stderr.write(run.error)
-    _warn(asked)
+    sys.stderr.write(run.error + _warnings_of(asked))
     return run.status
