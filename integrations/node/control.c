@@ -33,26 +33,35 @@ static void tell_status(int descriptor) {
             cluster.term);
 }
 
-static void asked(struct source *source, uint32_t events) {
+// The line of one who asks: it is answered, and the connection ends. The loop waits for nobody's line.
+static void read_line(struct source *source, uint32_t events) {
     char line[256];
-    struct timeval patience = {1, 0};
     (void)events;
-    int descriptor = accept4(source->fd, NULL, NULL, SOCK_CLOEXEC);
-    if (descriptor < 0)
-        return;
-    setsockopt(descriptor, SOL_SOCKET, SO_RCVTIMEO, &patience, sizeof patience);
-    ssize_t length = recv(descriptor, line, sizeof line - 1, 0);
+    ssize_t length = recv(source->fd, line, sizeof line - 1, 0);
     line[length > 0 ? length : 0] = 0;
     int node = !strncmp(line, "declare ", 8) ? atoi(line + 8) : 0;
     if (!strncmp(line, "status", 6)) {
-        tell_status(descriptor);
+        tell_status(source->fd);
     } else if (is_formed && node >= 1 && node <= settings.nodes) {
         view_condemn(node);
-        dprintf(descriptor, "node %d is declared once its lease is over\n", node);
+        dprintf(source->fd, "node %d is declared once its lease is over\n", node);
     } else {
-        dprintf(descriptor, "status, or declare N\n");
+        dprintf(source->fd, "status, or declare N\n");
     }
-    close(descriptor);
+    unwatch(source);
+    close(source->fd);
+    source->fd = -1;
+    free_later(source);
+}
+
+static void asked(struct source *source, uint32_t events) {
+    (void)events;
+    int descriptor = accept4(source->fd, NULL, NULL, SOCK_CLOEXEC | SOCK_NONBLOCK);
+    if (descriptor < 0)
+        return;
+    struct source *line = room_for(1, sizeof *line);
+    *line = (struct source){descriptor, read_line, NULL};
+    watch(line, EPOLLIN);
 }
 
 void control_begin(void) {
