@@ -75,7 +75,7 @@ _lockreplay() {
         --steps) : ;;
         --explains) compopt -o default ;;
         --allow) _lockreplay_words 'wait-drops close-own-descriptor no-query stale-read-denial lost-at' ;;
-        *) _lockreplay_rest 9999 9999 '--steps --explains --allow' '--allow' '--steps --explains --allow --order --go-on --stats --json --picture -h --help'
+        *) _lockreplay_rest 9999 9999 '--steps --explains --allow' '--allow' '--steps --explains --allow --order --go-on --stats --json -h --help'
         esac
         ;;
     seat)
@@ -108,10 +108,16 @@ _lockreplay() {
         _lockreplay_rest 0 0 '' '' '-h --help'
         ;;
     explain)
-        _lockreplay_rest 2 1 '' '' '--json -h --help'
+        case $before in
+        --names) : ;;
+        *) _lockreplay_rest 2 1 '--names' '' '--json --names -h --help'
+        esac
         ;;
     open)
-        _lockreplay_rest 1 1 '' '' '--json -h --help'
+        case $before in
+        --names) : ;;
+        *) _lockreplay_rest 1 1 '--names' '' '--ever --json --names -h --help'
+        esac
         ;;
     check)
         case $before in
@@ -125,17 +131,22 @@ _lockreplay() {
         --from) : ;;
         --to) : ;;
         --format) _lockreplay_words 'svg mermaid' ;;
-        *) _lockreplay_rest 1 1 '--around --from --to --format' '' '--around --from --to --format -h --help'
+        --names) : ;;
+        *) _lockreplay_rest 1 1 '--around --from --to --format --names' '' '--around --from --to --format --names -h --help'
         esac
         ;;
     stats)
-        _lockreplay_rest 1 1 '' '' '--json -h --help'
+        case $before in
+        --names) : ;;
+        *) _lockreplay_rest 1 1 '--names' '' '--json --names -h --help'
+        esac
         ;;
     from-strace)
         case $before in
         --nodes) : ;;
         --place) : ;;
-        *) _lockreplay_rest 9999 9999 '--nodes --place' '' '--nodes --place --history -h --help'
+        --names) : ;;
+        *) _lockreplay_rest 9999 9999 '--nodes --place --names' '' '--nodes --place --history --names -h --help'
         esac
         ;;
     explore)

@@ -92,7 +92,6 @@ complete -c lockreplay -n '__lockreplay_is judge' -l order -d 'Print an order of
 complete -c lockreplay -n '__lockreplay_is judge' -l go-on -d 'Leave out what fits nowhere, and go on behind it'
 complete -c lockreplay -n '__lockreplay_is judge' -l stats -d 'Print counts of calls and of tables'
 complete -c lockreplay -n '__lockreplay_is judge' -l json -d 'Print the text as JSON'
-complete -c lockreplay -n '__lockreplay_is judge' -l picture -d 'Draw the first call that fits nowhere, as SVG'
 complete -c lockreplay -n '__lockreplay_is judge' -s h -l help -d 'Print help'
 
 complete -c lockreplay -n '__lockreplay_is seat' -l nodes -x -d 'The nodes of the cluster, from 1 to 64'
@@ -119,12 +118,15 @@ complete -c lockreplay -n '__lockreplay_is merge' -s h -l help -d 'Print help'
 
 complete -c lockreplay -n '__lockreplay_is play' -s h -l help -d 'Print help'
 
-complete -c lockreplay -n '__lockreplay_file explain 1' -F
+complete -c lockreplay -n '__lockreplay_file explain 1 --names' -F
 complete -c lockreplay -n '__lockreplay_is explain' -l json -d 'Print the text as JSON'
+complete -c lockreplay -n '__lockreplay_is explain' -l names -x -d 'Show the names of files and processes that TABLE has'
 complete -c lockreplay -n '__lockreplay_is explain' -s h -l help -d 'Print help'
 
-complete -c lockreplay -n '__lockreplay_file open 1' -F
+complete -c lockreplay -n '__lockreplay_file open 1 --names' -F
+complete -c lockreplay -n '__lockreplay_is open' -l ever -d 'List each cycle of waits that stood, and behind which entries'
 complete -c lockreplay -n '__lockreplay_is open' -l json -d 'Print the text as JSON'
+complete -c lockreplay -n '__lockreplay_is open' -l names -x -d 'Show the names of files and processes that TABLE has'
 complete -c lockreplay -n '__lockreplay_is open' -s h -l help -d 'Print help'
 
 complete -c lockreplay -n '__lockreplay_file check 9999 --journal' -F
@@ -132,21 +134,24 @@ complete -c lockreplay -n '__lockreplay_is check' -l journal -r -F -d 'Say also 
 complete -c lockreplay -n '__lockreplay_is check' -l json -d 'Print the text as JSON'
 complete -c lockreplay -n '__lockreplay_is check' -s h -l help -d 'Print help'
 
-complete -c lockreplay -n '__lockreplay_file picture 1 --around --from --to --format' -F
+complete -c lockreplay -n '__lockreplay_file picture 1 --around --from --to --format --names' -F
 complete -c lockreplay -n '__lockreplay_is picture' -l around -x -d 'Draw the entries around the call, by its name, as 2.1.3'
 complete -c lockreplay -n '__lockreplay_is picture' -l from -x -d 'Draw no entry before entry K, counted from 1'
 complete -c lockreplay -n '__lockreplay_is picture' -l to -x -d 'Draw no entry behind entry L, counted from 1'
 complete -c lockreplay -n '__lockreplay_is picture' -l format -x -a 'svg mermaid' -d 'Draw it as svg or mermaid'
+complete -c lockreplay -n '__lockreplay_is picture' -l names -x -d 'Show the names of files and processes that TABLE has'
 complete -c lockreplay -n '__lockreplay_is picture' -s h -l help -d 'Print help'
 
-complete -c lockreplay -n '__lockreplay_file stats 1' -F
+complete -c lockreplay -n '__lockreplay_file stats 1 --names' -F
 complete -c lockreplay -n '__lockreplay_is stats' -l json -d 'Print the text as JSON'
+complete -c lockreplay -n '__lockreplay_is stats' -l names -x -d 'Show the names of files and processes that TABLE has'
 complete -c lockreplay -n '__lockreplay_is stats' -s h -l help -d 'Print help'
 
-complete -c lockreplay -n '__lockreplay_file from-strace 9999 --nodes --place' -F
+complete -c lockreplay -n '__lockreplay_file from-strace 9999 --nodes --place --names' -F
 complete -c lockreplay -n '__lockreplay_is from-strace' -l nodes -x -d 'The nodes of the script'\''s cluster, from 1 to 64'
 complete -c lockreplay -n '__lockreplay_is from-strace' -l place -x -d 'Place recorded processes by hand, as 10=1,12=2'
 complete -c lockreplay -n '__lockreplay_is from-strace' -l history -d 'Make a history of clients, for '\''lockreplay judge'\'''
+complete -c lockreplay -n '__lockreplay_is from-strace' -l names -x -d 'Write the names of files and processes to TABLE'
 complete -c lockreplay -n '__lockreplay_is from-strace' -s h -l help -d 'Print help'
 
 complete -c lockreplay -n '__lockreplay_file explore 1 --seeds --first --losses --repeats --states' -F
