@@ -32,14 +32,19 @@ void add(struct buffer *buffer, const void *bytes, size_t length) {
     buffer->length += length;
 }
 
+int text_of(char **text, const char *format, va_list words) {
+    int length = vasprintf(text, format, words);
+    if (length < 0)
+        die("no memory");
+    return length;
+}
+
 void add_text(struct buffer *buffer, const char *format, ...) {
     char *text;
     va_list words;
     va_start(words, format);
-    int length = vasprintf(&text, format, words);
+    int length = text_of(&text, format, words);
     va_end(words);
-    if (length < 0)
-        die("no memory");
     add(buffer, text, length);
     free(text);
 }

@@ -1,6 +1,7 @@
 // What every part of the daemon uses: what the command line asked for, text that grows, clocks, and words to the operator.
 #ifndef BASE_H
 #define BASE_H
+#include <stdarg.h>
 #include <stdbool.h>
 #include <stddef.h>
 #include <stdint.h>
@@ -21,6 +22,8 @@ struct buffer {
     size_t length, room;
 };
 void add(struct buffer *buffer, const void *bytes, size_t length);
+// The text that the words make, to be freed, and its length.
+int text_of(char **text, const char *format, va_list words) __attribute__((format(printf, 2, 0)));
 void add_text(struct buffer *buffer, const char *format, ...) __attribute__((format(printf, 2, 3)));
 void take_off(struct buffer *buffer, size_t length);
 void drop_buffer(struct buffer *buffer);

@@ -39,10 +39,8 @@ void seat_tell(struct seat *seat, enum told what, uint64_t of, const char *forma
     char *text;
     va_list words;
     va_start(words, format);
-    int length = vasprintf(&text, format, words);
+    int length = text_of(&text, format, words);
     va_end(words);
-    if (length < 0)
-        die("no memory");
     text[length] = '\n';
     add(&seat->to, text, length + 1);
     free(text);

@@ -19,10 +19,8 @@ void view_send(const char *format, ...) {
     char *text;
     va_list words;
     va_start(words, format);
-    int length = vasprintf(&text, format, words);
+    int length = text_of(&text, format, words);
     va_end(words);
-    if (length < 0)
-        die("no memory");
     agree->order(text, length);
     free(text);
 }
