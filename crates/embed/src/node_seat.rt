@@ -1,10 +1,10 @@
 //! The seat of a node.
 use crate::letter::NodeLetter;
 use crate::wire::message_in;
-use distances::patience::Patience;
 use messages::event::NodeInput;
 use messages::message::Message;
 use messages::outcome::Outcome;
+use messages::patience::Patience;
 use messages::sends::Sends;
 use node_core::event::NodeEvent;
 use node_core::node::Node;

@@ -1,8 +1,8 @@
 //! The office of the token server.
 use crate::letter::ServerLetter;
 use crate::wire::message_in;
-use distances::pace::Pace;
 use messages::event::{Event, ServerInput};
+use messages::pace::Pace;
 use messages::sends::Sends;
 use messages::shared_message::SharedMessage;
 use std::alloc::{AllocError, Global};

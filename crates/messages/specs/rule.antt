@@ -7,3 +7,4 @@ pub mod Messages
 pub mod Reports
 pub mod Refusals
 pub mod Entries
+pub mod Distances

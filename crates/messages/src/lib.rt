@@ -1,6 +1,7 @@
-//! The messages between nodes and token servers, the events and outcomes of their steps, and the
-//! entries of the journal. This crate knows nothing of the states of nodes and servers, of how any
-//! of this is written as text, of files on a disk, or of threads.
+//! The messages between nodes and token servers, the events and outcomes of their steps, the
+//! entries of the journal, and the distances at which an actor sends again. This crate knows nothing
+//! of the states of nodes and servers, of how any of this is written as text, of files on a disk, or
+//! of threads.
 #![tactic(auto)]
 
 pub mod actor;
@@ -13,6 +14,8 @@ pub mod items;
 pub mod kept_reply;
 pub mod message;
 pub mod outcome;
+pub mod pace;
+pub mod patience;
 pub mod refusal;
 pub mod sends;
 pub mod shape;

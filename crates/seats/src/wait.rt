@@ -2,8 +2,8 @@
 ghost use Rattle.std.specs.Prelude.{◌≡◌, ◌==◌, find};
 ghost use Rattle.seats.specs.rule.Waits.{first_wait, is_made, wait_of, waited};
 
-use distances::patience::Patience;
 use messages::outcome::Outcome;
+use messages::patience::Patience;
 
 /// An open call at the last tick: its number, when it is tried again, and whether a lock of its own node was in its way, so
 /// that a try sent nothing and answered nothing.

@@ -6,7 +6,7 @@ use Rattle.messages.specs.rule.Shapes.{ShapeFields}
 use Rattle.members.specs.rule.Parts.{MembersParts, members_state}
 use Rattle.node_core.specs.rule.Parts.{NodeParts, node_state}
 use Rattle.token_server.specs.rule.Parts.{ServerParts, server_state}
-use Rattle.distances.specs.declared.pace.Pace.{Pace}
+use Rattle.messages.specs.declared.pace.Pace.{Pace}
 use Rattle.seats.specs.declared.wait.Wait.{Wait}
 use Rattle.seats.specs.rule.NodeSeats.{NodeSeatState}
 use Rattle.seats.specs.rule.ServerSeats.{ServerSeatState}

@@ -19,9 +19,9 @@ use Rattle.token_server.specs.rule.Server.{server_rule}
 use Rattle.token_server.specs.rule.State.{ServerState, first_server, rebuilt}
 use Rattle.seats.specs.declared.order.Order.{Order}
 use Rattle.seats.specs.declared.order.Order.TheVariants.{Happens, Tick}
-use Rattle.distances.specs.declared.pace.Pace.{Pace}
+use Rattle.messages.specs.declared.pace.Pace.{Pace}
 use Rattle.seats.specs.declared.seat_step.SeatStep.{SeatStep}
-use Rattle.distances.specs.Distances.{at_rest, begun, is_due_at, noted, passed}
+use Rattle.messages.specs.rule.Distances.{at_rest, begun, is_due_at, noted, passed}
 use Rattle.seats.specs.rule.Waits.{is_none}
 use Rattle.seats.specs.rule.Steps.{has_begun, of_member, step_of, stepped}
 

@@ -1,7 +1,7 @@
 -- How long an open call of a node waits before it is tried again.
 use Rattle.std.specs.Prelude.{ℕ, ◌&&◌, ◌||◌, ◌==◌, not, Bool, true, false, List, [], ◌∷◌, find, is_some, Option, Some, None}
 use Rattle.messages.specs.declared.outcome.Outcome.{Outcome}
-use Rattle.distances.specs.Distances.{after_tick, at_first, is_due}
+use Rattle.messages.specs.rule.Distances.{after_tick, at_first, is_due}
 use Rattle.seats.specs.declared.wait.Wait.{Wait}
 
 -- a call that its node took since the last tick

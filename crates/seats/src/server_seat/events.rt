@@ -10,9 +10,9 @@ ghost use Rattle.seats.specs.rule.Parts.{server_seat};
 
 use super::{ServerSeat, happen_at, hear_of, rebuild, tick_at};
 use crate::seat_step::{SeatStep, silent};
-use distances::pace::Pace;
 use messages::event::{Event, MemberEvent};
 use messages::items::Items;
+use messages::pace::Pace;
 use messages::refusal::Refused;
 use std::alloc::Global;
 

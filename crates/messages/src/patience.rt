@@ -1,6 +1,6 @@
 //! The ticks that go by before something is tried again.
 ghost use Rattle.std.specs.Prelude.{◌≡◌};
-ghost use Rattle.distances.specs.Distances.{after_tick, at_first, is_due};
+ghost use Rattle.messages.specs.rule.Distances.{after_tick, at_first, is_due};
 
 // The number of ticks before the first try, and the greatest number between two tries.
 const FIRST_TICKS: u32 = 16;

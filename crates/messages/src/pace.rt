@@ -1,10 +1,10 @@
 //! When a token server sends again.
 ghost use Rattle.std.specs.Prelude.{◌≡◌};
-ghost use Rattle.distances.specs.Distances.{at_rest, begun, is_answer, is_due_at, noted, passed};
+ghost use Rattle.messages.specs.rule.Distances.{at_rest, begun, is_answer, is_due_at, noted, passed};
 
+use crate::event::Event;
+use crate::message::Message;
 use crate::patience::Patience;
-use messages::event::Event;
-use messages::message::Message;
 
 /// When a token server sends again what has no answer: it rests, or it waits so long.
 #[derive(Clone, Copy, Debug, PartialEq, Eq)]

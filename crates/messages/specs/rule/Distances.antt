@@ -4,8 +4,8 @@ use Rattle.messages.specs.declared.event.Event.{Event}
 use Rattle.messages.specs.declared.event.Event.TheVariants.{Deliver}
 use Rattle.messages.specs.declared.message.Message.{Message}
 use Rattle.messages.specs.declared.message.Message.TheVariants.{Taken, Released, Conflict, Report}
-use Rattle.distances.specs.declared.pace.Pace.{Pace}
-use Rattle.distances.specs.declared.patience.Patience.{Patience}
+use Rattle.messages.specs.declared.pace.Pace.{Pace}
+use Rattle.messages.specs.declared.patience.Patience.{Patience}
 
 -- the number of ticks before the first try
 abbrev pub first_distance : ℕ
