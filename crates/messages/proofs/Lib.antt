@@ -2,3 +2,6 @@ pub mod SameRuns
 pub mod RunEquality
 pub mod SameMessages
 pub mod Reports
+pub mod Choices
+pub mod Numbered
+pub mod Rules

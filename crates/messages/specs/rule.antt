@@ -8,3 +8,6 @@ pub mod Reports
 pub mod Refusals
 pub mod Entries
 pub mod Distances
+pub mod Numbered
+pub mod Members
+pub mod Parts

@@ -1,17 +1,19 @@
 //! The messages between nodes and token servers, the events and outcomes of their steps, the
-//! entries of the journal, and the distances at which an actor sends again. This crate knows nothing
-//! of the states of nodes and servers, of how any of this is written as text, of files on a disk, or
-//! of threads.
+//! entries of the journal, who is alive in a cluster, and when an actor sends again. This crate knows
+//! nothing of the states of nodes and servers, of how any of this is written as text, of files on a
+//! disk, or of threads.
 #![tactic(auto)]
 
 pub mod actor;
 pub mod command_number;
+mod crowd;
 pub mod entry;
 pub mod epoch_number;
 pub mod event;
 pub mod file_number;
 pub mod items;
 pub mod kept_reply;
+pub mod members;
 pub mod message;
 pub mod outcome;
 pub mod pace;

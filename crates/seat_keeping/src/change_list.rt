@@ -4,8 +4,8 @@ ghost use Rattle.messages.specs.declared.event.MemberEvent.{MemberEvent as Chang
 ghost use Rattle.messages.specs.declared.refusal.Refused.TheVariants.{NoMemory};
 ghost use Rattle.seat_keeping.specs.rule.Changes.{first_list, list_rule, list_state, list_with};
 
-use members::members::Members;
 use messages::event::MemberEvent;
+use messages::members::Members;
 use messages::refusal::Refused;
 use messages::shape::Shape;
 use std::alloc::{AllocError, Global};

@@ -1,9 +1,9 @@
 //! Which incarnations have begun.
 ghost use Rattle.std.specs.Prelude.{◌≡◌};
-ghost use Rattle.members.specs.rule.Parts.{members_state};
+ghost use Rattle.messages.specs.rule.Parts.{members_state};
 ghost use Rattle.seats.specs.rule.Steps.{has_begun};
 
-use members::members::Members;
+use messages::members::Members;
 use model::host::Host;
 
 /// Whether the node has begun in this incarnation.

@@ -18,7 +18,7 @@ use crate::line_outcome::LineOutcome;
 use crate::played_line::PlayedLine;
 use actors::call_error::CallError;
 use lockscript::script_line::ScriptCommand;
-use members::members::Members;
+use messages::members::Members;
 use messages::refusal::Refused;
 use messages::shape::Shape;
 use model::limits::MOST_PROCESSES;

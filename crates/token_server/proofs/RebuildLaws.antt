@@ -7,8 +7,8 @@ use Rattle.model.specs.declared.mode.Mode.TheVariants.{Read}
 use Rattle.messages.specs.rule.Shapes.{ShapeFields}
 use Rattle.messages.specs.rule.Epochs.{before_epoch}
 use Rattle.messages.specs.rule.Messages.{is_within}
-use Rattle.members.specs.rule.Parts.{MembersParts, incarnation_of, members_state}
-use Rattle.members.proofs.Numbered.{numbered-outside}
+use Rattle.messages.specs.rule.Parts.{MembersParts, incarnation_of, members_state}
+use Rattle.messages.proofs.Numbered.{numbered-outside}
 use Rattle.token_server.specs.declared.known_nodes.known_node.KnownNode.{KnownNode}
 use Rattle.token_server.specs.rule.Rows.{Row, awaited_row, row_conflicts_at}
 use Rattle.token_server.specs.rule.RowParts.{row_of, dead_of, known_node_at, rows_of, deaths_of}

@@ -2,7 +2,7 @@
 ghost use Rattle.std.specs.Prelude.{◌≡◌, ◌≢◌, ◌-◌, ◌<◌, ◌≤◌, ◌↔◌, false, ◌||◌, IsTrue, IfOk, IfErr, None, Ok, Err};
 ghost use Rattle.model.specs.rule.Limits.{IsNumber};
 ghost use Rattle.messages.specs.rule.Messages.{sending};
-ghost use Rattle.members.specs.rule.Parts.{members_state};
+ghost use Rattle.messages.specs.rule.Parts.{members_state};
 ghost use Rattle.token_server.specs.rule.State.{first_server, rebuilt, awaits};
 ghost use Rattle.token_server.specs.code.Told.{commands_told};
 ghost use Rattle.token_server.specs.rule.Resends.{outstanding};
@@ -18,8 +18,8 @@ use crate::moves::{leave, move_requests};
 use crate::sent_command::SentCommand;
 use crate::token_queue::active::Active;
 use crate::token_queue::line::Line;
-use members::members::Members;
 use messages::file_number::FileNumber;
+use messages::members::Members;
 use messages::outcome::Outcome;
 use messages::refusal::StepError;
 use messages::sends::Sends;

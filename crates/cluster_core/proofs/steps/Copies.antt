@@ -19,7 +19,7 @@ use Rattle.token_server.specs.code.Edits.{planned, Fits as ServerFits}
 use Rattle.token_server.specs.rule.Server.{server_rule}
 use Rattle.token_server.specs.rule.Parts.{ServerParts, server_state}
 use Rattle.token_server.specs.rule.State.{ServerState, first_server}
-use Rattle.members.specs.rule.Parts.{incarnation_of}
+use Rattle.messages.specs.rule.Parts.{incarnation_of}
 use Rattle.cluster_core.specs.rule.Parts.{WorldParts, IsWorld, seated, listed, alive_at, works_at, world_state}
 use Rattle.cluster_core.specs.declared.world.world_change.WorldChange.TheVariants.{OfNode, OfServer}
 use Rattle.cluster_core.specs.rule.World.{journal_limit}

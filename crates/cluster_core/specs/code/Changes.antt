@@ -6,7 +6,7 @@ use Rattle.messages.specs.declared.refusal.Refused.{Refused}
 use Rattle.messages.specs.declared.event.Event.{Event}
 use Rattle.messages.specs.declared.message.Message.{Message}
 use Rattle.messages.specs.declared.entry.Entry.{Entry}
-use Rattle.members.specs.rule.Parts.{incarnation_in}
+use Rattle.messages.specs.rule.Parts.{incarnation_in}
 use Rattle.node_core.specs.declared.change.NodeChange.{NodeChange}
 use Rattle.node_core.specs.declared.event.NodeEvent.{NodeEvent}
 use Rattle.node_core.specs.rule.Node.{node_rule}

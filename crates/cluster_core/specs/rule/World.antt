@@ -3,7 +3,7 @@ use Rattle.std.specs.Prelude.{ℕ, Bool, true, ◌&&◌, ◌==◌, if◌then◌e
 use Rattle.messages.specs.rule.Shapes.{ShapeFields}
 use Rattle.messages.specs.declared.message.Message.{Message}
 use Rattle.messages.specs.rule.Messages.{is_within}
-pub use Rattle.members.specs.rule.Members.{most_incarnations}
+pub use Rattle.messages.specs.rule.Members.{most_incarnations}
 use Rattle.node_core.specs.rule.State.{NodeState, first_node}
 use Rattle.token_server.specs.rule.State.{ServerState, first_server}
 

@@ -6,8 +6,8 @@ use Rattle.messages.specs.declared.event.MemberEvent.TheVariants.{Declare, Resta
 use Rattle.messages.specs.declared.refusal.Refused.{Refused}
 use Rattle.messages.specs.declared.version.Version.TheVariants.{Second}
 use Rattle.messages.specs.rule.Shapes.{ShapeFields}
-use Rattle.members.specs.rule.Members.{MembersState, declared_failed, first_members, restarted}
-use Rattle.members.specs.rule.Parts.{MembersParts, members_state}
+use Rattle.messages.specs.rule.Members.{MembersState, declared_failed, first_members, restarted}
+use Rattle.messages.specs.rule.Parts.{MembersParts, members_state}
 use Rattle.journal_text.specs.rule.Journals.{end_text}
 use Rattle.journal_text.specs.rule.Texts.{event_text}
 use Rattle.seat_text.specs.declared.seat_line.SeatLine.{SeatLine}

@@ -13,7 +13,7 @@ use Rattle.messages.specs.declared.refusal.Refused.TheVariants.{Stranger, Fenced
 use Rattle.messages.specs.declared.refusal.StepError.{StepError}
 use Rattle.messages.specs.rule.Messages.{host_of, sending}
 use Rattle.messages.specs.rule.Shapes.{ShapeFields}
-use Rattle.members.specs.rule.Members.{MembersState, declared_failed, first_members, restarted}
+use Rattle.messages.specs.rule.Members.{MembersState, declared_failed, first_members, restarted}
 use Rattle.node_core.specs.declared.event.NodeEvent.TheVariants as own
 use Rattle.node_core.specs.declared.open_call.OpenCall.{OpenCall}
 use Rattle.node_core.specs.rule.Node.{node_rule}

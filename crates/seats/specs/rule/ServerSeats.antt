@@ -12,7 +12,7 @@ use Rattle.messages.specs.declared.refusal.StepError.{StepError}
 use Rattle.messages.specs.rule.Messages.{host_of, sending}
 use Rattle.messages.specs.rule.Refusals.{refused_by}
 use Rattle.messages.specs.rule.Shapes.{ShapeFields}
-use Rattle.members.specs.rule.Members.{MembersState, declared_failed, first_members, restarted}
+use Rattle.messages.specs.rule.Members.{MembersState, declared_failed, first_members, restarted}
 use Rattle.token_server.specs.declared.event.ServerEvent.TheVariants as own
 use Rattle.token_server.specs.rule.Resends.{outstanding}
 use Rattle.token_server.specs.rule.Server.{server_rule}

@@ -8,7 +8,7 @@ use Rattle.messages.specs.declared.outcome.Outcome.{Outcome}
 use Rattle.messages.specs.declared.refusal.Refused.{Refused}
 use Rattle.messages.specs.declared.refusal.StepError.{StepError}
 use Rattle.messages.specs.rule.Refusals.{refused_by}
-use Rattle.members.specs.rule.Members.{MembersState, live_incarnation, was_declared}
+use Rattle.messages.specs.rule.Members.{MembersState, live_incarnation, was_declared}
 use Rattle.seats.specs.declared.order.Order.{Order}
 use Rattle.seats.specs.declared.seat_step.SeatStep.{SeatStep}
 

@@ -6,7 +6,7 @@ use Rattle.messages.specs.rule.Shapes.{ShapeFields}
 use Rattle.messages.specs.rule.Versions.{may_rebuild}
 use Rattle.messages.specs.declared.refusal.Refused.{Refused as Refusal}
 use Rattle.messages.specs.declared.refusal.Refused.TheVariants as refusal
-use Rattle.members.specs.rule.Members.{MembersState, first_members, live_incarnation, declared_failed, restarted}
+use Rattle.messages.specs.rule.Members.{MembersState, first_members, live_incarnation, declared_failed, restarted}
 use Rattle.node_core.specs.rule.Calls.{is_pid, is_in_shape}
 use Rattle.lockscript.specs.declared.script_line.ScriptCommand.{ScriptCommand}
 use Rattle.lockscript.specs.declared.script_line.ScriptCommand.TheVariants.{Call, Declare, Restart, FailServer, StartServer}

@@ -5,7 +5,7 @@ use Rattle.model.specs.declared.level.Level.TheVariants.{Shared, Exclusive}
 use Rattle.model.specs.declared.mode.Mode.{Mode}
 use Rattle.model.specs.declared.mode.Mode.TheVariants.{Read, Write}
 use Rattle.messages.specs.rule.Messages.{is_within}
-use Rattle.members.specs.rule.Parts.{MembersParts, members_state}
+use Rattle.messages.specs.rule.Parts.{MembersParts, members_state}
 use Rattle.token_server.specs.declared.known_nodes.known_node.KnownNode.{KnownNode}
 use Rattle.token_server.specs.rule.Rows.{Row, awaited_row}
 use Rattle.token_server.specs.rule.RowParts.{row_of, dead_of}

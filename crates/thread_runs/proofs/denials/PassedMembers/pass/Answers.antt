@@ -2,7 +2,7 @@ use Rattle.std.specs.Prelude.{true}
 use Rattle.std.specs.BTreeMap as tree
 use Rattle.std.specs.Ordering.{nat_cmp}
 use Rattle.std.proofs.Common.{◌≡◌, ◌⊎◌, ℕ, Some, sym, ◌∙◌, subst}
-use Rattle.members.specs.rule.Parts.{MembersParts, members_state}
+use Rattle.messages.specs.rule.Parts.{MembersParts, members_state}
 use Rattle.thread_runs.specs.rule.Lines.{parts}
 use Rattle.thread_runs.specs.code.Awaited.{members_of}
 use Rattle.thread_runs.specs.rule.Denials.{MayCallCome, declares}

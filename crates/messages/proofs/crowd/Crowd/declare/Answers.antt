@@ -1,6 +1,6 @@
 use Rattle.std.proofs.Common.{◌≡◌, true, false, rules, sym, ◌∙◌}
-use Rattle.members.proofs.Rules.{not_alive, fails}
-use Rattle.members.proofs.crowd.Crowd.declare.Goals as goal
+use Rattle.messages.proofs.Rules.{not_alive, fails}
+use Rattle.messages.proofs.crowd.Crowd.declare.Goals as goal
 
 pub returns-then-not-member-clause-err : goal.returns-then-not-member-clause-err
 returns-then-not-member-clause-err c =

@@ -1,7 +1,7 @@
 use Rattle.std.proofs.Common.{◌≡◌, ℕ, ◌+◌, Bool, true, false, ◌&&◌, nat_le, nat_lt, rules, arith, ap, sym, ◌∙◌}
 use Rattle.std.proofs.lemmas.Bool.Decides.{nat_tests}
-use Rattle.members.proofs.Rules.{declared_is}
-use Rattle.members.proofs.crowd.Crowd.declared.Goals as goal
+use Rattle.messages.proofs.Rules.{declared_is}
+use Rattle.messages.proofs.crowd.Crowd.declared.Goals as goal
 
 pub returns-then-incarnation-ge1 : goal.returns-then-incarnation-ge1
 returns-then-incarnation-ge1 c =

@@ -1,8 +1,8 @@
 use Rattle.std.proofs.Common.{arith, true, refl}
-use Rattle.members.specs.rule.Parts.{incarnation_of}
-use Rattle.members.proofs.Numbered.{begun_empty, begun_more}
-use Rattle.members.proofs.Rules.{first_is_first}
-use Rattle.members.proofs.crowd.Crowd.new.Goals as goal
+use Rattle.messages.specs.rule.Parts.{incarnation_of}
+use Rattle.messages.proofs.Numbered.{begun_empty, begun_more}
+use Rattle.messages.proofs.Rules.{first_is_first}
+use Rattle.messages.proofs.crowd.Crowd.new.Goals as goal
 
 pub loop-index-init : goal.loop-index-init
 loop-index-init c =

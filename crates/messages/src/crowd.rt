@@ -2,10 +2,10 @@
 ghost use Rattle.std.specs.Prelude.{◌≡◌, ◌≤◌, true, Some, None, IfSome, IfOk, IfErr, OnErr, length, ◌-◌, slice_index_or};
 ghost use Rattle.messages.specs.rule.Messages.{is_within};
 ghost use Rattle.model.specs.rule.Limits.{IsNumber};
-ghost use Rattle.members.specs.rule.Members.{most_incarnations, first_members, live_incarnation, was_declared, with_restarted, declared_failed, restarted};
-ghost use Rattle.members.specs.rule.Parts.{members_state};
+ghost use Rattle.messages.specs.rule.Members.{most_incarnations, first_members, live_incarnation, was_declared, with_restarted, declared_failed, restarted};
+ghost use Rattle.messages.specs.rule.Parts.{members_state};
 
-use messages::refusal::Refused;
+use crate::refusal::Refused;
 use std::alloc::{AllocError, Global};
 use std::marker::Model;
 
@@ -20,7 +20,7 @@ struct Member {
 }
 
 impl Model for Member {
-    ghost use Rattle.members.specs.rule.Parts.{MemberParts, IsMember};
+    ghost use Rattle.messages.specs.rule.Parts.{MemberParts, IsMember};
 
     ghost Value = { MemberParts };
 
@@ -41,7 +41,7 @@ pub struct Crowd {
 
 impl Model for Crowd {
     ghost use Rattle.std.specs.Prelude.{List};
-    ghost use Rattle.members.specs.rule.Parts.{MemberParts};
+    ghost use Rattle.messages.specs.rule.Parts.{MemberParts};
 
     ghost Value = { List MemberParts };
 

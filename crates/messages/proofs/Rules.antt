@@ -6,11 +6,11 @@ use Rattle.std.proofs.lemmas.List.{length-set}
 use Rattle.messages.specs.rule.Messages.{is_within}
 use Rattle.messages.specs.declared.refusal.Refused.{Refused}
 use Rattle.messages.specs.declared.refusal.Refused.TheVariants.{Stranger, NotAlive, NotDead, TooManyRestarts}
-use Rattle.members.specs.rule.Members.{MembersState, most_incarnations, first_members, live_incarnation, was_declared, with_declared, with_restarted, declared_failed, restarted}
-use Rattle.members.specs.rule.Parts.{MemberParts, incarnation_of, alive_in, incarnation_in, members_state}
-use Rattle.members.specs.rule.Numbered.{IsRest}
-use Rattle.members.proofs.Choices.{at_number}
-use Rattle.members.proofs.Numbered.{within_is, put_at, read_number, numbered-outside}
+use Rattle.messages.specs.rule.Members.{MembersState, most_incarnations, first_members, live_incarnation, was_declared, with_declared, with_restarted, declared_failed, restarted}
+use Rattle.messages.specs.rule.Parts.{MemberParts, incarnation_of, alive_in, incarnation_in, members_state}
+use Rattle.messages.specs.rule.Numbered.{IsRest}
+use Rattle.messages.proofs.Choices.{at_number}
+use Rattle.messages.proofs.Numbered.{within_is, put_at, read_number, numbered-outside}
 
 abbrev member : Bool → ℕ → MemberParts
 member alive last = record { alive = alive; last = last }

@@ -1,12 +1,12 @@
 //! The members of a cluster: its nodes and its token servers.
 ghost use Rattle.std.specs.Prelude.{◌≡◌, ◌-◌, ◌≤◌, IfSome, IfOk, IfErr, OnErr, Ok, Err};
 ghost use Rattle.model.specs.rule.Limits.{IsNumber};
-ghost use Rattle.members.specs.rule.Members.{most_incarnations, first_members, live_incarnation, was_declared, with_restarted, declared_failed, restarted};
-ghost use Rattle.members.specs.rule.Parts.{members_state};
+ghost use Rattle.messages.specs.rule.Members.{most_incarnations, first_members, live_incarnation, was_declared, with_restarted, declared_failed, restarted};
+ghost use Rattle.messages.specs.rule.Parts.{members_state};
 
 use crate::crowd::Crowd;
-use messages::refusal::Refused;
-use messages::shape::Shape;
+use crate::refusal::Refused;
+use crate::shape::Shape;
 use std::alloc::{AllocError, Global};
 use std::marker::Model;
 
@@ -20,7 +20,7 @@ pub struct Members {
 }
 
 impl Model for Members {
-    ghost use Rattle.members.specs.rule.Parts.{MembersParts};
+    ghost use Rattle.messages.specs.rule.Parts.{MembersParts};
 
     ghost Value = { MembersParts };
 

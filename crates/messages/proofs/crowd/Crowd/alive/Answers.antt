@@ -1,6 +1,6 @@
 use Rattle.std.proofs.Common.{◌≡◌, true, false, rules, sym, ◌∙◌}
-use Rattle.members.proofs.Rules.{live_is}
-use Rattle.members.proofs.crowd.Crowd.alive.Goals as goal
+use Rattle.messages.proofs.Rules.{live_is}
+use Rattle.messages.proofs.crowd.Crowd.alive.Goals as goal
 
 pub returns-then-member-clause-value : goal.returns-then-member-clause-value
 returns-then-member-clause-value c =

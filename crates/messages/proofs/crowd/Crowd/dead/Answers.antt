@@ -1,7 +1,7 @@
 use Rattle.std.specs.Prelude.{◌-◌}
 use Rattle.std.proofs.Common.{◌≡◌, ℕ, true, false, rules, arith, ap, sym, ◌∙◌}
-use Rattle.members.proofs.Rules.{incarnation_is, none_declared}
-use Rattle.members.proofs.crowd.Crowd.dead.Goals as goal
+use Rattle.messages.proofs.Rules.{incarnation_is, none_declared}
+use Rattle.messages.proofs.crowd.Crowd.dead.Goals as goal
 
 pub returns-then-not-has : goal.returns-then-not-has
 returns-then-not-has c =

@@ -1,6 +1,6 @@
 use Rattle.std.proofs.Common.{◌≡◌, ◌<◌, true, false, rules, sym, ◌∙◌}
-use Rattle.members.proofs.Rules.{not_dead, none_left, restarts_next}
-use Rattle.members.proofs.crowd.Crowd.next.Goals as goal
+use Rattle.messages.proofs.Rules.{not_dead, none_left, restarts_next}
+use Rattle.messages.proofs.crowd.Crowd.next.Goals as goal
 
 pub returns-then-member-clause-err : goal.returns-then-member-clause-err
 returns-then-member-clause-err c =

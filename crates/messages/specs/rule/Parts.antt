@@ -1,7 +1,7 @@
 -- Members as the code stores them, and the state that they stand for.
 use Rattle.std.specs.Prelude.{ℕ, ◌+◌, ◌≤◌, Bool, true, false, List, length}
-use Rattle.members.specs.rule.Members.{MembersState, most_incarnations}
-use Rattle.members.specs.rule.Numbered.{numbered}
+use Rattle.messages.specs.rule.Members.{MembersState, most_incarnations}
+use Rattle.messages.specs.rule.Numbered.{numbered}
 
 -- whether an actor is alive, and the last incarnation that it began
 pub record MemberParts : Type 0 where

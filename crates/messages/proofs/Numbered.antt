@@ -4,8 +4,8 @@ use Rattle.std.proofs.Common.{◌≡◌, ℕ, zero, suc, ◌+◌, ◌<◌, ◌�
 use Rattle.std.proofs.lemmas.Bool.{eqb-true}
 use Rattle.std.proofs.lemmas.Bool.Decides.{nat_tests}
 use Rattle.messages.specs.rule.Messages.{is_within}
-use Rattle.members.specs.rule.Numbered.{numbered, IsRest}
-use Rattle.members.proofs.Choices.{if_again, at_number}
+use Rattle.messages.specs.rule.Numbered.{numbered, IsRest}
+use Rattle.messages.proofs.Choices.{if_again, at_number}
 
 -- a number after `from` is not `from`
 later : (from k : ℕ) → ((from + suc k) == from) ≡ false

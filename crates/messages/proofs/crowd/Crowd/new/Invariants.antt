@@ -1,7 +1,7 @@
 use Rattle.std.proofs.Common.{true}
-use Rattle.members.specs.rule.Parts.{incarnation_of}
-use Rattle.members.proofs.Numbered.{Begun}
-use Rattle.members.proofs.crowd.Crowd.new.Given as goal
+use Rattle.messages.specs.rule.Parts.{incarnation_of}
+use Rattle.messages.proofs.Numbered.{Begun}
+use Rattle.messages.proofs.crowd.Crowd.new.Given as goal
 
 abbrev pub invariant-loop-index : goal.invariant-loop-index
 invariant-loop-index l = record {

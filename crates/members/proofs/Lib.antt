@@ -1,3 +1,0 @@
-pub mod Choices
-pub mod Numbered
-pub mod Rules
