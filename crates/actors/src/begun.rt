@@ -14,6 +14,7 @@ use crate::weather::Weather;
 use crate::worker::Worker;
 use book::book::Book;
 use book::seat::Seat;
+use book::trail_name::Name;
 use crossbeam_channel::{Receiver, unbounded};
 use messages::shape::Shape;
 use std::alloc::{AllocError, Global};
@@ -21,7 +22,6 @@ use std::sync::atomic::{AtomicU64, Ordering};
 use std::sync::{Mutex, Wait};
 use std::thread::{Scope, Threads};
 use std::time::Clock;
-use trail::name::Name;
 
 /// The parts of a cluster beside its book and its workers: a mailbox and a desk for each actor, nodes first, a place
 /// for each node, and a place for each token server as it begins again.

@@ -8,13 +8,13 @@ use crate::gate::Gate;
 use crate::letter::{CallResult, Letter, Question};
 use book::mark::Mark;
 use book::receipt::Receipt;
+use book::trail_name::Name;
 use crossbeam_channel::{Receiver, SendError, Sender, bounded};
 use model::op::Op;
 use model::process::Process;
 use std::alloc::Global;
 use std::marker::Model;
 use std::sync::Wait;
-use trail::name::Name;
 
 /// A process of a running cluster, which makes its calls one after the other. A call that needs no other actor the
 /// client may make itself, where the cluster's gate is open. Other calls go to the worker, which keeps the client's

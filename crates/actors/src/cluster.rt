@@ -18,6 +18,7 @@ use crate::stuck::is_stuck;
 use crate::weather::Weather;
 use book::book::Book;
 use book::seat::Seat;
+use book::trail_name::Name;
 use cluster_core::journal::Journal;
 use messages::actor::Actor;
 use messages::shape::Shape;
@@ -29,7 +30,6 @@ use std::sync::{Mutex, Wait};
 use std::thread;
 use std::thread::Threads;
 use std::time::Clock;
-use trail::name::Name;
 
 mod failures;
 

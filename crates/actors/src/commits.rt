@@ -12,9 +12,9 @@ use book::mark::Mark;
 use book::prepared::Prepared;
 use book::seat::Seat;
 use book::stamp::Stamp;
+use book::trail_name::Name;
 use std::alloc::Global;
 use std::sync::{Mutex, Wait};
-use trail::name::Name;
 
 /// Commits a step that the seat prepared, under the lock of the book. The gate is told before the lock is taken, and
 /// after it is given back.

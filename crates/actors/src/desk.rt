@@ -1,7 +1,7 @@
 //! Desks: the places where the steps of actors are made.
 use book::seat::Seat;
+use book::trail_name::Name;
 use std::sync::Mutex;
-use trail::name::Name;
 
 /// The work at the desk of an actor: its seat, and whether calls are open at the node, as its worker knows.
 #[derive(Drop)]

@@ -13,12 +13,12 @@ use book::book::Book;
 use book::mark::Mark;
 use book::seat::Seat;
 use book::stamp::Stamp;
+use book::trail_name::Name;
 use messages::event::{Event, NodeInput};
 use model::op::Op;
 use model::process::Process;
 use std::alloc::Global;
 use std::sync::{Mutex, Wait};
-use trail::name::Name;
 
 /// The parts that a client needs to make calls at its node's desk, on its own thread: the desk, the book, the gate,
 /// and whether the workers are to end.

@@ -6,8 +6,8 @@ ghost use Rattle.actors.specs.declared.call_error.CallError.TheVariants.{Busy, F
 
 use crate::call_error::CallError;
 use book::seat::Seat;
+use book::trail_name::Name;
 use std::alloc::Global;
-use trail::name::Name;
 
 /// The knowledge that a running cluster has of a node: its last incarnation and whether that one is alive, the
 /// processes that have a client, and the seat of an incarnation that the worker has not taken.

@@ -3,10 +3,10 @@ use crate::held_back::HeldBack;
 use crate::shared::Shared;
 use crate::weather::{Fate, Weather};
 use book::stamp::Stamp;
+use book::trail_name::Name;
 use messages::shared_message::SharedMessage;
 use std::alloc::Global;
 use std::sync::Wait;
-use trail::name::Name;
 
 /// The messages of an actor on their way: its weather, and the messages that the weather holds back.
 #[derive(Drop)]

@@ -1,10 +1,10 @@
 //! The pacer, which sends ticks to the workers.
 use crate::shared::Shared;
+use book::trail_name::Name;
 use std::sync::Wait;
 use std::sync::atomic::Ordering;
 use std::thread;
 use std::time::{Clock, Duration};
-use trail::name::Name;
 
 /// Sends each mailbox whose worker waits for one a tick, at most one each millisecond, and the next only when the
 /// worker has given the last one back. Once the workers are to end, sends each a tick that wakes it, until no worker

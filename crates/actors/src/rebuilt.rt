@@ -1,7 +1,7 @@
 //! A token server that begins again, as its worker finds it.
 use book::seat::Seat;
 use book::stamp::Stamp;
-use trail::name::Name;
+use book::trail_name::Name;
 
 /// A token server that was rebuilt, for its worker: its seat, and the stamp with the messages in which it asks the
 /// nodes for their tokens.

@@ -6,6 +6,7 @@ use crate::node_place::NodePlace;
 use crate::rebuilt::Rebuilt;
 use book::book::Book;
 use book::seat::Seat;
+use book::trail_name::Name;
 use crossbeam_channel::{SendError, Sender};
 use messages::actor::Actor;
 use messages::shared_message::SharedMessage;
@@ -13,7 +14,6 @@ use std::alloc::Global;
 use std::sync::atomic::{AtomicU64, Ordering};
 use std::sync::{Mutex, Wait};
 use std::thread;
-use trail::name::Name;
 
 /// The mailbox of an actor, and whether it takes a tick: 0 where its worker waits for one, 1 where one is on its way
 /// or the worker needs none.

@@ -19,6 +19,7 @@ use book::mark::Mark;
 use book::prepared::Prepared;
 use book::seat::Seat;
 use book::stamp::Stamp;
+use book::trail_name::Name;
 use crossbeam_channel::{Receiver, RecvTimeoutError};
 use messages::actor::Actor;
 use messages::event::{Event, ServerInput};
@@ -27,7 +28,6 @@ use std::alloc::Global;
 use std::sync::Wait;
 use std::sync::atomic::Ordering;
 use std::time::{Clock, Duration};
-use trail::name::Name;
 
 mod endings;
 mod questions;

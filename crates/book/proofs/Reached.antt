@@ -3,7 +3,7 @@ use Rattle.std.proofs.Common.{◌≡◌, ◌≢◌, ◌⊎◌, inl, inr, ℕ, No
 use Rattle.messages.specs.declared.actor.Actor.{Actor}
 use Rattle.cluster_core.specs.rule.World.{WorldState}
 use Rattle.cluster_core.proofs.common.Places.{slice_get-push}
-use Rattle.trail.specs.code.Spots.{SpotFields}
+use Rattle.book.specs.code.Spots.{SpotFields}
 use Rattle.book.specs.rule.States.{ActorState, actor_of, HasState}
 use Rattle.book.specs.rule.Fields.{StandingFields, standing_state}
 use Rattle.book.specs.code.LastSpots.{LastSpots, place_of, IsLastSpot, IsSpotOf, AreReached, Noted, Forgotten}

@@ -4,3 +4,4 @@ pub mod Commits
 pub mod Receipts
 pub mod Turns
 pub mod Seats
+pub mod Trails

@@ -30,6 +30,7 @@ use crate::seat::Seat;
 use crate::stamp::Stamp;
 use crate::state::State;
 use crate::tests_of::{accepts, seen_of};
+use crate::trail_name::Name;
 use cluster_core::journal::Journal;
 use cluster_core::run::Run;
 use cluster_core::world::World;
@@ -44,7 +45,6 @@ use node_core::node::Node;
 use std::alloc::{AllocError, Global};
 use std::marker::Model;
 use token_server::server::Server;
-use trail::name::Name;
 
 mod beginnings;
 

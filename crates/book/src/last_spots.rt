@@ -3,14 +3,14 @@ ghost use Rattle.std.specs.Prelude.{◌≡◌, IfOk, IfSome};
 ghost use Rattle.book.specs.code.LastSpots.{IsLastSpot, IsSpotOf, Noted, Forgotten, place_of, AreReached};
 ghost use Rattle.book.specs.rule.Fields.{standing_state};
 
+use crate::spot::Spot;
 use crate::standing::Standing;
+use crate::trail::Trail;
+use crate::trail_name::Name;
 use messages::actor::Actor;
 use model::limits::MOST_NODES;
 use std::alloc::{AllocError, Global};
 use std::marker::Model;
-use trail::name::Name;
-use trail::spot::Spot;
-use trail::trail::Trail;
 
 /// The trail of where the seats of a book stood behind each commit, and for each actor the spot of its last state, if it is known. A seat
 /// whose state stands at that spot has the state of the book's copy, without a comparison of states.

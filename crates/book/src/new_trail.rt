@@ -2,10 +2,10 @@
 ghost use Rattle.std.specs.Prelude.{◌≡◌};
 
 use crate::standing::Standing;
+use crate::trail::Trail;
+use crate::trail_name::Name;
+use crate::unnamed::Unnamed;
 use std::marker::Model;
-use trail::name::Name;
-use trail::trail::Trail;
-use trail::unnamed::Unnamed;
 
 /// An empty trail for a new book. With a trail, a book tells by comparing two numbers that a seat is up to date. The
 /// name ties a seat to its book's trail, in proofs only. Making one takes no memory.

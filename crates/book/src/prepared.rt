@@ -7,12 +7,12 @@ ghost use Rattle.book.specs.rule.States.{actor_of, incarnation_of};
 use crate::outcomes::copy_of;
 use crate::planned_step::PlannedStep;
 use crate::seat::Seat;
+use crate::trail_name::Name;
 use messages::actor::Actor;
 use messages::event::Event;
 use messages::outcome::Outcome;
 use std::alloc::{AllocError, Global};
 use std::marker::Model;
-use trail::name::Name;
 
 /// A step of an actor that was planned from its seat's state and may be committed from that seat: its event, its
 /// change of the state, and its outcome. It has the event and the outcome once more for the stamp, and the event for

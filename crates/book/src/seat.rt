@@ -13,16 +13,16 @@ ghost use Rattle.book.specs.code.LastSpots.{IsSpotOf};
 
 use crate::planned_step::PlannedStep;
 use crate::prepared::Prepared;
+use crate::spot::Spot;
 use crate::standing::Standing;
 use crate::state::State;
+use crate::trail_name::Name;
 use cluster_core::run::Run;
 use messages::actor::Actor;
 use messages::event::Event;
 use messages::refusal::StepError;
 use std::alloc::{AllocError, Global};
 use std::marker::Model;
-use trail::name::Name;
-use trail::spot::Spot;
 
 /// The right to commit the steps of one actor: where it stands, the number of its commits, and the spot of the last
 /// committed state in the book's trail, if it is known. The type is generic in the name of that trail.

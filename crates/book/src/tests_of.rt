@@ -11,9 +11,9 @@ use crate::last_spots::LastSpots;
 use crate::mark::Mark;
 use crate::prepared::Prepared;
 use crate::seat::Seat;
+use crate::trail_name::Name;
 use cluster_core::run::Run;
 use cluster_core::world::{JOURNAL_LIMIT, World};
-use trail::name::Name;
 
 /// The position of the mark, 0 for none.
 pub(crate) fn seen_of(seen: Option<&Mark>) -> u32

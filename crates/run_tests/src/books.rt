@@ -6,10 +6,10 @@ use book::mark::Mark;
 use book::new_trail::NewTrail;
 use book::seat::Seat;
 use book::stamp::Stamp;
+use book::trail_name::Name;
 use messages::event::Event;
 use messages::shape::Shape;
 use std::alloc::{AllocError, Global};
-use trail::name::Name;
 
 /// A book and the seats of its actors.
 #[derive(Drop)]

@@ -10,6 +10,9 @@ use book::new_trail::NewTrail;
 use book::receipt::Receipt;
 use book::seat::Seat;
 use book::stamp::Stamp;
+use book::trail::Trail;
+use book::trail_name::Name;
+use book::unnamed::Unnamed;
 use messages::event::{Event, NodeInput, ServerInput};
 use messages::refusal::{Refused, StepError};
 use messages::shape::Shape;
@@ -19,9 +22,6 @@ use model::reply::Reply;
 use std::alloc::Global;
 use std::marker::Brand;
 use std::test::Fail;
-use trail::name::Name;
-use trail::trail::Trail;
-use trail::unnamed::Unnamed;
 
 // The book of a cluster of two nodes and one file, with its seats.
 fn begins<J: Name>(alloc: Global, trail: Option<NewTrail>) -> Result<Box<BookWithSeats<J>>, Fail>

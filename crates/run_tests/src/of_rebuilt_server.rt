@@ -6,6 +6,7 @@ use book::book::Book;
 use book::commit_error::CommitError;
 use book::seat::Seat;
 use book::stamp::Stamp;
+use book::trail_name::Name;
 use message_text::writing::push_message;
 use messages::event::{Event, ServerInput};
 use messages::refusal::Refused;
@@ -16,7 +17,6 @@ use model::policy::Policy;
 use std::alloc::Global;
 use std::marker::Brand;
 use std::test::Fail;
-use trail::name::Name;
 
 fn resend() -> Event {
     Event::AtServer(1, ServerInput::Resend)

@@ -7,6 +7,7 @@ use crate::journals::{actor_of, read};
 use book::book::Book;
 use book::new_trail::NewTrail;
 use book::seat::Seat;
+use book::trail_name::Name;
 use cluster_core::journal::comes_next;
 use cluster_core::world::World;
 use messages::actor::Actor;
@@ -16,7 +17,6 @@ use messages::shape::Shape;
 use std::alloc::{AllocError, Global};
 use std::marker::Brand;
 use std::test::Fail;
-use trail::name::Name;
 
 // The run of `tests/restarted-while-awaited.lock`, which ends with entry 37. Then node 2 has every call that is left, and waits for
 // a lock of node 1, which is declared failed.

@@ -4,11 +4,11 @@ use actors::call_error::CallError;
 use actors::client::Client;
 use actors::gate::Gate;
 use book::receipt::Receipt;
+use book::trail_name::Name;
 use lockscript::play_error::PlayError;
 use model::op::Op;
 use std::alloc::{AllocError, Global};
 use std::collections::VecDeque;
-use trail::name::Name;
 
 /// A call that is to be made: the index of its line in the script, its operation, and the client for this call and
 /// later ones, if it is another client than before.

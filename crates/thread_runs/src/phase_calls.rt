@@ -3,11 +3,11 @@ use crate::call_queue::{CallQueue, NextCall};
 use crate::line_outcome::LineOutcome;
 use actors::client::Client;
 use actors::gate::Gate;
+use book::trail_name::Name;
 use lockscript::play_error::PlayError;
 use model::op::Op;
 use std::alloc::{AllocError, Global};
 use std::sync::{Mutex, Wait};
-use trail::name::Name;
 
 /// The node of a process, and the process's calls in a phase. At most one thread makes the calls, while others may
 /// add some.

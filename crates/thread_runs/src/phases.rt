@@ -9,6 +9,7 @@ use actors::client::Client;
 use actors::cluster::Cluster;
 use actors::gate::Gate;
 use book::receipt::Receipt;
+use book::trail_name::Name;
 use lockscript::play_error::PlayError;
 use lockscript::script_line::{ScriptCommand, ScriptLine};
 use messages::refusal::Refused;
@@ -17,7 +18,6 @@ use std::collections::BTreeMap;
 use std::sync::Wait;
 use std::thread::Threads;
 use std::time::Clock;
-use trail::name::Name;
 
 mod playing;
 

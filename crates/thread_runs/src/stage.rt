@@ -3,13 +3,13 @@ use crate::phase_calls::PhaseCalls;
 use crate::run_watcher::RunWatcher;
 use actors::cluster::Cluster;
 use actors::gate::Gate;
+use book::trail_name::Name;
 use lockscript::play_error::PlayError;
 use std::sync::Wait;
 use std::sync::atomic::{AtomicU64, Ordering};
 use std::thread;
 use std::thread::{Scope, Threads};
 use std::time::{Clock, Duration};
-use trail::name::Name;
 
 // The longest pause between two looks, in milliseconds.
 const LONGEST_PAUSE: u64 = 64;

@@ -24,6 +24,7 @@ use actors::seeded::Seeded;
 use book::book::Book;
 use book::new_trail::NewTrail;
 use book::seat::Seat;
+use book::trail_name::Name;
 use cluster_core::journal::Journal;
 use cluster_core::world::World;
 use lockscript::play_error::PlayError;
@@ -36,7 +37,6 @@ use std::sync::{Mutex, Wait};
 use std::thread;
 use std::thread::Threads;
 use std::time::Clock;
-use trail::name::Name;
 
 /// Runs a script on threads. Its lines are `call`, `settle`, `declare`, `restart`, `fail-server` and `start-server`;
 /// the calls between two of the other lines form a phase. In a phase each process has a client of its own, which

@@ -13,9 +13,9 @@ use crate::letter::Letter;
 use crate::rebuilt::Rebuilt;
 use book::seat::Seat;
 use book::stamp::Stamp;
+use book::trail_name::Name;
 use messages::refusal::Refused;
 use std::sync::Wait;
-use trail::name::Name;
 
 impl<'a, J: Name, G: Gate> Cluster<'a, J, G> {
     /// Declares the node failed, and sends each token server word of it.

@@ -13,11 +13,11 @@ use book::mark::Mark;
 use book::receipt::Receipt;
 use book::seat::Seat;
 use book::stamp::Stamp;
+use book::trail_name::Name;
 use messages::event::{Event, NodeInput};
 use model::op::Op;
 use model::process::Process;
 use std::sync::Wait;
-use trail::name::Name;
 
 impl<W: Weather> Worker<W> {
     // Whether the node, in that incarnation, may take a call of the process. If it may, there is room for the call.

@@ -10,12 +10,12 @@ use crate::shared::Shared;
 use crate::weather::Weather;
 use book::prepared::Prepared;
 use book::seat::Seat;
+use book::trail_name::Name;
 use messages::actor::Actor;
 use messages::event::{Event, NodeInput, ServerInput};
 use messages::pace::Pace;
 use messages::refusal::StepError;
 use std::sync::Wait;
-use trail::name::Name;
 
 impl<W: Weather> Worker<W> {
     // Does what is due at a tick: messages that were held back go, a node tries open calls again, and a token server

@@ -4,7 +4,7 @@ use Rattle.model.specs.rule.Limits.{most_nodes}
 use Rattle.messages.specs.declared.actor.Actor.{Actor}
 use Rattle.messages.specs.declared.actor.Actor.TheVariants.{Node as ANode, Server as AServer}
 use Rattle.cluster_core.specs.rule.World.{WorldState}
-use Rattle.trail.specs.code.Spots.{SpotFields}
+use Rattle.book.specs.code.Spots.{SpotFields}
 use Rattle.book.specs.rule.States.{ActorState, actor_of, HasState}
 use Rattle.book.specs.rule.Fields.{StandingFields, standing_state}
 

@@ -9,11 +9,11 @@ ghost use Rattle.messages.specs.declared.actor.Actor.TheVariants.{Node as ANode,
 
 use crate::seat::Seat;
 use crate::state::State;
+use crate::trail_name::Name;
 use messages::shape::Shape;
 use node_core::node::Node;
 use std::alloc::{AllocError, Global};
 use token_server::server::Server;
-use trail::name::Name;
 
 // The state of a node of a cluster that begins.
 fn first_node_state(alloc: Global, shape: Shape, number: u8) -> Result<State, AllocError>

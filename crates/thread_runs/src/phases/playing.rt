@@ -8,6 +8,7 @@ use crate::stage::Stage;
 use actors::call_error::CallError;
 use actors::client::Client;
 use actors::gate::Gate;
+use book::trail_name::Name;
 use lockscript::play_error::PlayError;
 use lockscript::script_line::ScriptCommand;
 use model::op::Op;
@@ -16,7 +17,6 @@ use std::sync::atomic::AtomicU64;
 use std::thread::{Scope, Threads};
 use std::time::Clock;
 use std::{mem, thread};
-use trail::name::Name;
 
 impl<'a, 'b, J: Name + Send + Sync, G: Gate + Sync> Phases<'a, 'b, J, G> {
     /// Ends the phase: makes the calls of each part on a thread of its own, and waits for all. Where one stops before

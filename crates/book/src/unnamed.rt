@@ -1,9 +1,9 @@
 //! A trail without a name.
 ghost use Rattle.std.specs.Prelude.{◌≡◌, []};
 
-use crate::name::Name;
-use crate::rule::Law;
 use crate::trail::Trail;
+use crate::trail_name::Name;
+use crate::trail_rule::Law;
 use logbook::{Seen, Start, Word};
 use std::marker::Model;
 
@@ -17,7 +17,7 @@ pub struct Unnamed<E> {
 impl<E> Model for Unnamed<E> {
     ghost use Rattle.std.specs.Prelude.{◌≡◌, []};
     ghost use Rattle.logbook.specs.Pages.{Book};
-    ghost use Rattle.trail.specs.rule.Rules.{head_of};
+    ghost use Rattle.book.specs.rule.Trails.{head_of};
 
     ghost Value = { Book };
 

@@ -1,10 +1,10 @@
 //! A trail: a list that only grows, of which the program keeps the length.
 ghost use Rattle.std.specs.Prelude.{◌≡◌, ◌<◌, ◌≤◌, ◌^◌, ◌⊎◌, ◌++◌, ◌∷◌, [], length, Some, IfNone, IfSome};
-ghost use Rattle.trail.specs.rule.Rules.{head_of};
+ghost use Rattle.book.specs.rule.Trails.{head_of};
 
-use crate::name::Name;
-use crate::rule::{Add, Law, Nothing};
 use crate::spot::Spot;
+use crate::trail_name::Name;
+use crate::trail_rule::{Add, Law, Nothing};
 use logbook::{Offer, Seen, Word};
 use std::marker::{Model, PhantomData};
 
@@ -22,7 +22,7 @@ pub struct Trail<J: Name, E> {
 
 impl<J: Name, E> Model for Trail<J, E> {
     ghost use Rattle.std.specs.Prelude.{◌≡◌, length, List};
-    ghost use Rattle.trail.specs.rule.Rules.{head_of};
+    ghost use Rattle.book.specs.rule.Trails.{head_of};
 
     ghost Value = { List E };
 

@@ -5,8 +5,8 @@ use Rattle.std.proofs.lemmas.Bool.Decides.{nat_tests}
 use mathlib.Core.List.{IsPrefix}
 use prog.Atomic.{either}
 use Rattle.logbook.specs.Pages.{Cell, cell, keeps, no_nib, step, Moves, Goes}
-use Rattle.trail.specs.rule.Rules.{IsKept, Adds}
-use Rattle.trail.proofs.Beginnings.{prefix_whole}
+use Rattle.book.specs.rule.Trails.{IsKept, Adds}
+use Rattle.book.proofs.Beginnings.{prefix_whole}
 
 abbrev pub shown : {E : Type 0} → List E → List E
 shown log = []

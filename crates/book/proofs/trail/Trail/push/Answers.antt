@@ -1,7 +1,7 @@
 use Rattle.std.proofs.Common.{◌≡◌, ap, sym, ◌∙◌, Some, slice_get, [], ◌∷◌, ◌++◌}
-use Rattle.trail.proofs.Adding.{adds_moves, added}
-use Rattle.trail.proofs.Beginnings.{last_get}
-use Rattle.trail.proofs.trail.Trail.push.Goals as goal
+use Rattle.book.proofs.Adding.{adds_moves, added}
+use Rattle.book.proofs.Beginnings.{last_get}
+use Rattle.book.proofs.trail.Trail.push.Goals as goal
 
 pub compare_exchange-found-requires : goal.compare_exchange-found-requires
 compare_exchange-found-requires g c =

@@ -7,7 +7,7 @@ pub(crate) struct Law;
 impl<E> Rule<E, u64> for Law {
     ghost use Rattle.std.specs.Prelude.{[]};
     ghost use base.Fml.{ftrue};
-    ghost use Rattle.trail.specs.rule.Rules.{IsKept};
+    ghost use Rattle.book.specs.rule.Trails.{IsKept};
 
     ghost holds = { λ cells log. IsKept cells log };
 
@@ -35,7 +35,7 @@ impl<E> Gain<E, u64> for Nothing {
 pub(crate) struct Add;
 
 impl<E> Play<E, u64> for Add {
-    ghost use Rattle.trail.specs.rule.Rules.{Adds};
+    ghost use Rattle.book.specs.rule.Trails.{Adds};
 
     ghost then = { Adds };
 }
