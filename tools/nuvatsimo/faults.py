@@ -45,8 +45,13 @@ def line(status: int, text: str) -> Fault:
 
 
 def told(status: int, text: str) -> Fault:
-    """Returns a fault that tells one line on standard output, as `no call 1.1.9`."""
+    """Returns a fault that tells one line on standard output, as `no node 3, the last is 2`."""
     return Fault(status, output=f"{text}\n")
+
+
+def no_call(name: str) -> Fault:
+    """A journal has no call of that name."""
+    return line(NOT_SO, f"no call {name}")
 
 
 def bad_line(number: int) -> Fault:

@@ -46,7 +46,7 @@ third call there. Each entry that has to do with the call is told (exit status 0
   history: at entry 13 (its reply)          where the one order has it
 Up to the reply it also has failures and starts of its node, of its file's server, and of
 nodes that this asked for a token or a report. Where the journal has no call of that
-name, the text is 'no call CALL' (exit status 1).
+name, standard error says so (exit status 1).
 """,
 )
 _FREEING = ("close", "exit", "unlock")
@@ -263,7 +263,7 @@ def story_of(source: Source, call: str) -> Story:
     for entry in source.entries(is_audited=True):
         outlook.take(entry)
     if not outlook.is_made:
-        raise faults.told(faults.NOT_SO, f"no call {call}")
+        raise faults.no_call(call)
     story = Story(outlook)
     for entry in source.entries(is_audited=True):
         story.take(entry)

@@ -2,6 +2,9 @@
 
 from __future__ import annotations
 
+import os
+import shutil
+import subprocess
 import unittest
 
 from nuvatsimo import program
@@ -40,6 +43,13 @@ class Seats(unittest.TestCase):
         with self.assertRaises(Refused) as refused:
             seat.ask("sing")
         self.assertEqual(refused.exception.code, 9)
+
+    @unittest.skipUnless(shutil.which("go"), "no Go is here")
+    def test_the_module_in_go(self) -> None:
+        folder = os.path.join(os.path.dirname(os.path.abspath(__file__)), "../../examples/go")
+        words = ["go", "test", "-count=1", "./..."]
+        ran = subprocess.run(words, cwd=folder, capture_output=True, check=False, text=True)
+        self.assertEqual(ran.returncode, 0, ran.stdout + ran.stderr)
 
 
 if __name__ == "__main__":

@@ -14,7 +14,7 @@ from nuvatsimo.strace import calls, lines, main
 from nuvatsimo.strace.history import is_segment
 from nuvatsimo.strace.happenings import LockCall, Notes
 from nuvatsimo.strace.processes import MOST_PROCESSES, ScriptProcesses, Threads
-from nuvatsimo.strace.reader import events_of
+from nuvatsimo.strace.reader import events_of, is_recording
 from nuvatsimo.strace.times import LineTimes
 
 TOP = os.path.join(os.path.dirname(os.path.abspath(__file__)), "..", "..")
@@ -115,6 +115,14 @@ class Lines(unittest.TestCase):
         self.assertEqual(lines.said_in("+++ other"), lines.Aside())
         for text in ("dup(3)", "(3) = 4", "d p(3) = 4", "<... dup) = 4", "x"):
             self.assertIsNone(lines.said_in(text))
+
+
+    def test_what_is_no_recording(self) -> None:
+        self.assertTrue(is_recording(""))
+        self.assertTrue(is_recording('x\n5 openat(AT_FDCWD, "x", O_RDWR) = 3\n'))
+        self.assertTrue(is_recording('openat(AT_FDCWD, "x", O_RDWR) = 3\n'))
+        self.assertTrue(is_recording("5 +++ exited with 0 +++\n"))
+        self.assertFalse(is_recording("cluster nodes 1 files 1 policy wide\ncall 1 1 spawn\n"))
 
 
 class Calls(unittest.TestCase):

@@ -38,7 +38,7 @@ from ten before the first that has to do with the call to ten behind the last; w
 both, those in both. Of these the first 400 are drawn. With none of the three, SVG of
 more than 400 has columns of as many entries each, with counts. Where there are more, or
 none though the journal has some, standard error tells so (exit status 1). Where the
-journal has no call of that name, the text is 'no call CALL' (exit status 1).
+journal has no call of that name, standard error says so (exit status 1).
 """
 
 COMMAND = Command(
@@ -110,7 +110,7 @@ def _around(source: Source, call: str, window: Window) -> Window:
     """Narrows a window to the entries around a call."""
     ends = around(source.entries(is_audited=True), call)
     if ends is None:
-        raise faults.told(faults.NOT_SO, f"no call {call}")
+        raise faults.no_call(call)
     first, last = max(ends[0] - MARGIN, 0), ends[1] + MARGIN
     return Window(max(first, window.first), min(last, window.last))
 

@@ -10,15 +10,19 @@ from nuvatsimo import faults, traps
 from nuvatsimo.names import Names
 from nuvatsimo.strace.history import History, NoLocks, Recording, history_of
 from nuvatsimo.strace.lines import MOST_NUMBER
+from nuvatsimo.strace.reader import is_recording
 from nuvatsimo.strace.script import Script, script_of
 from nuvatsimo.strace.times import BadTime, LineTimes
 from nuvatsimo.words import Argument, Command, Option, Parsed, number
 
 MOST_NODES = 64
-_HELP = """\
+_STRACE = (
+    "strace -f -e trace=fcntl,open,openat,openat2,creat,dup,dup2,dup3,close,close_range,clone,"
+    "clone3,fork,vfork,execve,execveat,exit_group"
+)
+_HELP = f"""\
 RECORDING is what this writes of a program and of the processes that it begins:
-  strace -f -e trace=fcntl,open,openat,openat2,creat,dup,dup2,dup3,close,close_range,clone,\
-clone3,fork,vfork,execve,execveat,exit_group -o RECORDING PROGRAM
+  {_STRACE} -o RECORDING PROGRAM
 The text is a script, for 'lockreplay run', of the locks and descriptors of that program.
 Comment lines '# expect' have the kernel's answers, others the paths and PIDs. Each process
 that opens a file that is locked, and that none of these began, is placed on the next of
@@ -92,6 +96,9 @@ _NO_NAMES = (
     "from-strace --history: expected for each recording a name of its own, without space or @"
 )
 _NO_LOCKS = "from-strace --history: expected a lock call on a file whose name is known"
+_NO_RECORDING = (
+    f"from-strace: no line is one that strace -f writes; this records a program: {_STRACE} -o RECORDING PROGRAM"
+)
 _PLACING = re.compile("([1-9][0-9]*)=([1-9][0-9]*)")
 _NAME = re.compile("[^ @\x00-\x1f\x7f]+")
 
@@ -125,6 +132,8 @@ def _script(parsed: Parsed) -> Script:
     if len(parsed.recordings) > 1:
         raise COMMAND.refuse(_APART)
     text = _text_of(parsed.recordings[0])
+    if not is_recording(text):
+        raise faults.line(faults.BAD_INPUT, _NO_RECORDING)
     placings = _placings_in(parsed.place)
     if any(node > parsed.nodes for node in placings.values()):
         raise faults.line(faults.BAD_INPUT, _PAST_NODES)

@@ -77,6 +77,18 @@ def events_of(text: str) -> Iterator[Event]:
     yield from reader.events
 
 
+def is_recording(text: str) -> bool:
+    """Tells whether some line is one of strace, or none says anything."""
+    lines = [line for line in lines_of(text) if line.strip()]
+    return not lines or any(map(_is_of_strace, lines))
+
+
+def _is_of_strace(line: str) -> bool:
+    process = timed_of(line)
+    text = behind_time(line if process is None else process[1])
+    return is_aside(text) or said_in(text) is not None
+
+
 class _Reader:
     """Reads the lines. An event is held back while it, or one before it, may still change."""
 

@@ -1,0 +1,3 @@
+module nuvatsimo/seat
+
+go 1.19
