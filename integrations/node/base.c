@@ -9,7 +9,7 @@
 
 struct settings settings = {
     .nodes = 3, .files = MOST_FILES, .lease_ms = 4000, .margin_ms = 400, .beat_ms = 100, .grace_ms = 50, .threads = 4,
-    .fences = true, .forgets = true, .policy = "wide", .cluster = "nuvatsimo",
+    .fences = true, .policy = "wide", .cluster = "nuvatsimo",
 };
 void (*before_death)(void);
 

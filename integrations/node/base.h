@@ -11,8 +11,7 @@ enum { MS = 1000000 };              // nanoseconds of a millisecond
 
 struct settings {
     int me, nodes, files, lease_ms, margin_ms, beat_ms, grace_ms, threads, loss;
-    bool fences, caches, forgets;    // forgets: pages go at a grant and at a revoke
-    bool by_cpg;
+    bool fences, by_cpg;
     const char *program, *policy, *backing, *folder, *mountpoint, *cluster, *members, *key, *hook;
 };
 extern struct settings settings;

@@ -4,7 +4,10 @@
 #include <errno.h>
 #include <fcntl.h>
 #include <stdlib.h>
+#include <sys/uio.h>
 #include <unistd.h>
+
+enum { NOT_PASSED_ON = O_NOFOLLOW | O_DIRECT | O_APPEND };      // (each write says whether it appends: F_SETFL changes that)
 
 static void give_handle(struct fuse_file_info *info, int file, fuse_ino_t node) {
     struct handle *handle = room_for(1, sizeof *handle);
@@ -12,14 +15,14 @@ static void give_handle(struct fuse_file_info *info, int file, fuse_ino_t node) 
     handle->inode = inode_of(node);
     pthread_mutex_init(&handle->mutex, NULL);
     info->fh = (uintptr_t)handle;
-    info->direct_io = !settings.caches;         // (pages of before an open are not kept in any case)
+    info->direct_io = true;         // (the kernel keeps no pages of reads and writes)
 }
 
 static void open_file(fuse_req_t request, fuse_ino_t node, struct fuse_file_info *info) {
     char path[64];
     inode_path(inode_of(node), path);
     lease_look();       // (it may truncate)
-    int file = open(path, (info->flags & ~(O_NOFOLLOW | O_CREAT | O_EXCL | O_DIRECT)) | O_CLOEXEC);
+    int file = open(path, (info->flags & ~(O_CREAT | O_EXCL | NOT_PASSED_ON)) | O_CLOEXEC);
     if (file < 0) {
         fuse_reply_err(request, errno);
         return;
@@ -44,7 +47,7 @@ static int make_file(fuse_req_t request, int folder, const char *name, int flags
 static void create_file(fuse_req_t request, fuse_ino_t parent, const char *name, mode_t mode, struct fuse_file_info *info) {
     struct fuse_entry_param entry;
     lease_look();
-    int file = make_file(request, inode_of(parent)->file, name, (info->flags | O_CLOEXEC) & ~(O_NOFOLLOW | O_DIRECT), mode);
+    int file = make_file(request, inode_of(parent)->file, name, (info->flags | O_CLOEXEC) & ~NOT_PASSED_ON, mode);
     if (file < 0) {
         fuse_reply_err(request, errno);
         return;
@@ -73,9 +76,10 @@ static void read_bytes(fuse_req_t request, fuse_ino_t node, size_t size, off_t o
 }
 
 static void write_bytes(fuse_req_t request, fuse_ino_t node, const char *bytes, size_t size, off_t offset, struct fuse_file_info *info) {
+    struct iovec all = {(void *)bytes, size};
     (void)node;
     lease_look();
-    ssize_t length = pwrite(handle_of(info)->file, bytes, size, offset);
+    ssize_t length = pwritev2(handle_of(info)->file, &all, 1, offset, info->flags & O_APPEND ? RWF_APPEND : 0);
     if (length < 0)
         fuse_reply_err(request, errno);
     else

@@ -1,5 +1,4 @@
 #include "files.h"
-#include "cache.h"
 #include "cluster.h"
 #include "locks.h"
 #include "view.h"
@@ -41,7 +40,6 @@ static void give_back(void) {
         if (!(cluster.files[file].users & bit(settings.me)) || gives[file] || locks_have(file))
             continue;
         gives[file] = true;
-        cache_forget(file);         // (no revoke asks for what is dirty, once the number is of another file)
         view_send("G %d", file);
     }
 }
@@ -65,10 +63,8 @@ void files_taken(int from, uint64_t inode) {
     }
     cluster.files[file].users |= bit(from);
     cluster.files[file].stamp = ++cluster.stamp;
-    if (from != settings.me)
-        return;
-    cache_forget(file);
-    locks_file_came(inode);
+    if (from == settings.me)
+        locks_file_came(inode);
 }
 
 void files_given_back(int from, int file) {

@@ -30,7 +30,6 @@ struct inode *inode_of(fuse_ino_t node);
 void inode_path(const struct inode *inode, char path[64]);
 int inode_look_up(fuse_ino_t parent, const char *name, struct fuse_entry_param *entry);     // an error, or 0
 void inode_forget(fuse_ino_t node, uint64_t lookups);
-fuse_ino_t inode_by_number(uint64_t number);        // 0 where the kernel knows none such
 void inodes_begin(void);
 
 static inline struct handle *handle_of(const struct fuse_file_info *info) { return (struct handle *)(uintptr_t)info->fh; }

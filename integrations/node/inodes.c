@@ -86,10 +86,3 @@ void inode_forget(fuse_ino_t node, uint64_t lookups) {
     close(inode->file);
     free(inode);
 }
-
-fuse_ino_t inode_by_number(uint64_t number) {
-    pthread_mutex_lock(&mutex);
-    struct inode *inode = *place_of(number);
-    pthread_mutex_unlock(&mutex);
-    return (fuse_ino_t)(uintptr_t)inode;
-}

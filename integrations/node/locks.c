@@ -7,7 +7,7 @@
 #include <stdlib.h>
 #include <string.h>
 
-enum { TRIES = 100 };               // ticks for which a call asks for a number of its file
+enum { TRIES = 1000 };              // ticks for which a call asks for a number of its file (a machine under load may answer none for a hundred)
 static const int64_t TURN = 20 * (int64_t)MS;       // of a wait, where another call of its owner is queued behind it
 
 static void go(struct owner *owner);

@@ -1,6 +1,5 @@
 #define _GNU_SOURCE
 #include "mail.h"
-#include "cache.h"
 #include "changes.h"
 #include "cluster.h"
 #include "seat.h"
@@ -14,10 +13,7 @@ static int host_of(bool is_node, int number) {
     return number >= 1 && number <= settings.files && cluster.servers[number].runs ? cluster.servers[number].host : 0;
 }
 
-// Before the node answers a revoke, what programs wrote by mmap is on the disk. (Its first word behind the kind is the file's number.)
 static void deliver(bool is_node, int number, const char *message) {
-    if (is_node && !strncmp(message, "revoke ", 7))
-        cache_forget(atoi(message + 7));
     if (!is_node && !server_seats[number])
         changes_begin_server(number);
     struct seat *seat = is_node ? node_seat : server_seats[number];

@@ -27,18 +27,17 @@ static const char usage[] =
     "  --lease MS     of a node (4000)                 --margin MS      that its own lease is shorter (400)\n"
     "  --beat MS      between two beats (100)          --grace MS       that a dead daemon's seats have to end (50)\n"
     "  --policy wide|exact  of tokens (wide)           --threads N      for data (4)\n"
-    "  --cache        the kernel caches pages          --hook COMMAND   is run with a node's number before that is declared\n"
-    "For tests alone: --no-lease, --keep-pages (at a grant), --loss PERCENT (of messages; as many come twice).\n";
+    "  --hook COMMAND is run with a node's number before that is declared\n"
+    "For tests alone: --no-lease, --loss PERCENT (of messages; as many come twice).\n";
 
 enum {
-    NODE = 1, NODES, BACKING, FOLDER, PROGRAM, COROSYNC, TCP, KEY, CLUSTER, LEASE, MARGIN, BEAT, GRACE, POLICY, THREADS, CACHE, HOOK, NO_LEASE, KEEP_PAGES, LOSS,
+    NODE = 1, NODES, BACKING, FOLDER, PROGRAM, COROSYNC, TCP, KEY, CLUSTER, LEASE, MARGIN, BEAT, GRACE, POLICY, THREADS, HOOK, NO_LEASE, LOSS,
 };
 static const struct option options[] = {
     {"node", 1, NULL, NODE}, {"nodes", 1, NULL, NODES}, {"backing", 1, NULL, BACKING}, {"folder", 1, NULL, FOLDER}, {"program", 1, NULL, PROGRAM},
     {"corosync", 0, NULL, COROSYNC}, {"tcp", 1, NULL, TCP}, {"key", 1, NULL, KEY}, {"cluster", 1, NULL, CLUSTER}, {"lease", 1, NULL, LEASE},
     {"margin", 1, NULL, MARGIN}, {"beat", 1, NULL, BEAT}, {"grace", 1, NULL, GRACE}, {"policy", 1, NULL, POLICY}, {"threads", 1, NULL, THREADS},
-    {"cache", 0, NULL, CACHE}, {"hook", 1, NULL, HOOK}, {"no-lease", 0, NULL, NO_LEASE}, {"keep-pages", 0, NULL, KEEP_PAGES}, {"loss", 1, NULL, LOSS},
-    {NULL, 0, NULL, 0},
+    {"hook", 1, NULL, HOOK}, {"no-lease", 0, NULL, NO_LEASE}, {"loss", 1, NULL, LOSS}, {NULL, 0, NULL, 0},
 };
 
 static void refuse(void) {
@@ -79,9 +78,7 @@ static void take_option(int option, const char *value) {
     case CLUSTER: settings.cluster = value; break;
     case POLICY: settings.policy = value; break;
     case HOOK: settings.hook = value; break;
-    case CACHE: settings.caches = true; break;
     case NO_LEASE: settings.fences = false; break;
-    case KEEP_PAGES: settings.forgets = false; break;
     default: take_number(option, value);
     }
 }

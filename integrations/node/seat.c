@@ -1,6 +1,5 @@
 #define _GNU_SOURCE
 #include "seat.h"
-#include "cache.h"
 #include "lease.h"
 #include "locks.h"
 #include "log.h"
@@ -121,9 +120,6 @@ static void take_line(struct seat *seat, char *line) {
         take_message(line + 3);
     } else if (!strncmp(line, "entry ", 6)) {
         seat->made_entry = true;
-        char *grant = seat->kind == SEAT_NODE ? strstr(line, " deliver grant ") : NULL;
-        if (grant)
-            cache_forget(atoi(grant + 15));
     } else if (!strncmp(line, "reply ", 6)) {
         char *reply = strchr(line + 6, ' ');
         snprintf(seat->reply, sizeof seat->reply, "%s", reply ? reply + 1 : "");

@@ -3,6 +3,7 @@
 #include "fs.h"
 #include <errno.h>
 #include <fcntl.h>
+#include <linux/fuse.h>
 #include <signal.h>
 #include <stdlib.h>
 #include <string.h>
@@ -16,8 +17,9 @@ static pthread_t threads[MOST_THREADS];
 
 static void begin(void *nothing, struct fuse_conn_info *connection) {
     (void)nothing;
-    connection->want |= connection->capable & (FUSE_CAP_POSIX_LOCKS | FUSE_CAP_READDIRPLUS);
-    connection->want &= ~(unsigned)(FUSE_CAP_AUTO_INVAL_DATA | FUSE_CAP_WRITEBACK_CACHE | FUSE_CAP_SPLICE_READ | FUSE_CAP_FLOCK_LOCKS);
+    connection->want |= connection->capable & (FUSE_CAP_POSIX_LOCKS | FUSE_CAP_READDIRPLUS | FUSE_CAP_AUTO_INVAL_DATA);
+    connection->want &= ~(unsigned)(FUSE_CAP_WRITEBACK_CACHE | FUSE_CAP_SPLICE_READ | FUSE_CAP_FLOCK_LOCKS);
+    connection->max_background = UINT16_MAX;        // (so none of the requests that `arrivals` is for waits in the kernel)
 }
 
 void fs_mount(void) {
@@ -40,16 +42,26 @@ void fs_mount(void) {
     fcntl(fuse_session_fd(session), F_SETFD, FD_CLOEXEC);
 }
 
+// The end of an open file is handed over before anything is read that came behind it. close(2) does not wait for it, and the kernel may name the next open
+// file description as it named that one: a lock of the new one would go with the old one's end.
+static pthread_mutex_t arrivals = PTHREAD_MUTEX_INITIALIZER;
+
 static void *serve(void *nothing) {
     struct fuse_buf request = {0};
     while (!fuse_session_exited(session)) {
+        pthread_mutex_lock(&arrivals);
         int got = fuse_session_receive_buf(session, &request);
+        bool is_end = got > 0 && ((struct fuse_in_header *)request.mem)->opcode == FUSE_RELEASE;
+        if (!is_end)
+            pthread_mutex_unlock(&arrivals);
         if (got == -EINTR)
             continue;
         if (got <= 0)
             break;
         lease_look();
         fuse_session_process_buf(session, &request);
+        if (is_end)
+            pthread_mutex_unlock(&arrivals);
     }
     free(request.mem);
     ended = true;

@@ -2,14 +2,12 @@
 """file_calls.py A B: prints what calls of files, folders, links and attributes answer over two paths of one file system; A and B may be the same."""
 import ctypes
 import errno
-import mmap
 import os
 import stat
 import sys
 import threading
 
 HERE, THERE = sys.argv[1:3]
-MAPS = len(sys.argv) < 4 or sys.argv[3] != "no-mmap"
 C = ctypes.CDLL(None, use_errno=True)
 
 
@@ -119,13 +117,6 @@ def data():
         show("taken away while open", os.pread(file.fileno(), 9, 0), os.fstat(file.fileno()).st_nlink)
     show("to truncate as it is opened", tried(lambda: os.close(os.open(here("copy"), os.O_WRONLY | os.O_TRUNC))), os.stat(there("copy")).st_size)
     show("to make what is there", tried(lambda: os.open(here("copy"), os.O_CREAT | os.O_EXCL)))
-    if MAPS:
-        with open(here("mapped"), "w+b") as file:
-            file.truncate(8192)
-            with mmap.mmap(file.fileno(), 8192) as mapped:
-                mapped[4096:4100] = b"text"
-                mapped.flush()
-        show("mapped", os.stat(there("mapped")).st_size, read(there("mapped"))[4096:4100])
 
 
 def attributes():
