@@ -1,10 +1,6 @@
 // Agreement by corosync: its closed process groups bring members and messages in one order, and its configuration has them encrypted and authenticated.
 #define _GNU_SOURCE
-#include "agree.h"
-#include "base.h"
-#include "loop.h"
-#include "mail.h"
-#include "view.h"
+#include "cluster.h"
 #include <corosync/cpg.h>
 #include <stdio.h>
 #include <stdlib.h>

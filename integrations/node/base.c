@@ -1,9 +1,11 @@
 #define _GNU_SOURCE
 #include "base.h"
+#include <errno.h>
 #include <stdarg.h>
 #include <stdio.h>
 #include <stdlib.h>
 #include <string.h>
+#include <sys/epoll.h>
 #include <time.h>
 #include <unistd.h>
 
@@ -32,21 +34,20 @@ void add(struct buffer *buffer, const void *bytes, size_t length) {
     buffer->length += length;
 }
 
-int text_of(char **text, const char *format, va_list words) {
-    int length = vasprintf(text, format, words);
+void add_words(struct buffer *buffer, const char *format, va_list words) {
+    char *text;
+    int length = vasprintf(&text, format, words);
     if (length < 0)
         die("no memory");
-    return length;
+    add(buffer, text, length);
+    free(text);
 }
 
 void add_text(struct buffer *buffer, const char *format, ...) {
-    char *text;
     va_list words;
     va_start(words, format);
-    int length = text_of(&text, format, words);
+    add_words(buffer, format, words);
     va_end(words);
-    add(buffer, text, length);
-    free(text);
 }
 
 void take_off(struct buffer *buffer, size_t length) {
@@ -100,4 +101,52 @@ void die(const char *format, ...) {
     if (before_death && gettid() == getpid())       // (seats are the loop's, which is the first thread)
         before_death();
     _exit(3);
+}
+
+enum { EVENTS = 64, BURIED = 256 };
+static int waiting = -1;
+static void *buried[BURIED];
+static int buried_count;
+
+void loop_begin(void) {
+    waiting = epoll_create1(EPOLL_CLOEXEC);
+    if (waiting < 0)
+        die("epoll: %m");
+}
+
+void watch(struct source *source, uint32_t events) {
+    struct epoll_event event = {.events = events, .data.ptr = source};
+    if (epoll_ctl(waiting, EPOLL_CTL_ADD, source->fd, &event))
+        die("epoll: %m");
+}
+
+void watch_for(struct source *source, uint32_t events) {
+    struct epoll_event event = {.events = events, .data.ptr = source};
+    if (epoll_ctl(waiting, EPOLL_CTL_MOD, source->fd, &event))
+        die("epoll: %m");
+}
+
+void unwatch(struct source *source) {
+    if (source->fd >= 0)
+        epoll_ctl(waiting, EPOLL_CTL_DEL, source->fd, NULL);
+}
+
+void free_later(void *room) {
+    if (buried_count == BURIED)
+        return;     // (rather a leak than a use after it)
+    buried[buried_count++] = room;
+}
+
+void loop_turn(void) {
+    struct epoll_event events[EVENTS];
+    int count = epoll_wait(waiting, events, EVENTS, -1);
+    if (count < 0 && errno != EINTR)
+        die("epoll: %m");
+    for (int k = 0; k < count; k++) {
+        struct source *source = events[k].data.ptr;
+        if (source->fd >= 0)
+            source->ready(source, events[k].events);
+    }
+    while (buried_count)
+        free(buried[--buried_count]);
 }

@@ -21,8 +21,7 @@ struct buffer {
     size_t length, room;
 };
 void add(struct buffer *buffer, const void *bytes, size_t length);
-// The text that the words make, to be freed, and its length.
-int text_of(char **text, const char *format, va_list words) __attribute__((format(printf, 2, 0)));
+void add_words(struct buffer *buffer, const char *format, va_list words) __attribute__((format(printf, 2, 0)));
 void add_text(struct buffer *buffer, const char *format, ...) __attribute__((format(printf, 2, 3)));
 void take_off(struct buffer *buffer, size_t length);
 void drop_buffer(struct buffer *buffer);
@@ -35,4 +34,18 @@ void say(const char *format, ...) __attribute__((format(printf, 1, 2)));
 _Noreturn void die(const char *format, ...) __attribute__((format(printf, 1, 2)));
 // Runs before die ends the process, by the first thread: seats are killed, and their logs cut to what was read.
 extern void (*before_death)(void);
+
+// Something that the first thread waits for: a seat, another node, the clock. `ready` is told which events of epoll came.
+struct source {
+    int fd;
+    void (*ready)(struct source *source, uint32_t events);
+    void *of;
+};
+void loop_begin(void);
+void watch(struct source *source, uint32_t events);
+void watch_for(struct source *source, uint32_t events);
+void unwatch(struct source *source);
+// Memory that holds a source is given back only once nothing of this turn can name it.
+void free_later(void *room);
+void loop_turn(void);
 #endif

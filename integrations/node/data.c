@@ -1,6 +1,6 @@
 // Open files and their bytes. The lease is looked at before each write, and behind each read: what was read while it held is no later node's to change.
 #define _GNU_SOURCE
-#include "caller.h"
+#include "fs.h"
 #include <errno.h>
 #include <fcntl.h>
 #include <stdlib.h>

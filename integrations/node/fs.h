@@ -2,8 +2,7 @@
 #ifndef FS_H
 #define FS_H
 #define FUSE_USE_VERSION 34
-#include "base.h"
-#include "lease.h"
+#include "cluster.h"
 #include <fuse_lowlevel.h>
 #include <pthread.h>
 #include <stdatomic.h>
@@ -47,4 +46,9 @@ bool fs_ended(void);
 // Lock calls that threads handed over since the last turn are made.
 void handover_begin(void);
 void handover_wake(void);
+
+// A thread makes files as its caller, whose they are then.
+// `may_all`: the kernel asked already whether the caller may, also by its other groups, which are not known here.
+void caller_begin(fuse_req_t request, bool may_all);
+void caller_end(void);              // errno stays
 #endif

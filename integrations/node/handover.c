@@ -2,7 +2,6 @@
 #define _GNU_SOURCE
 #include "fs.h"
 #include "locks.h"
-#include "loop.h"
 #include <errno.h>
 #include <stdlib.h>
 #include <sys/epoll.h>

@@ -1,11 +1,90 @@
 #define _GNU_SOURCE
+#include "cluster.h"
 #include "locks.h"
-#include "files.h"
-#include "owners.h"
 #include <errno.h>
 #include <stdio.h>
 #include <stdlib.h>
 #include <string.h>
+
+// Who locks: the owners of a node, each with its queue of calls, and the files that it has open.
+struct owner {
+    uint64_t id;
+    bool used, spawned, poked;
+    int process;                                            // its number in the node, from 1
+    uint32_t tags;                                          // that it gave
+    pid_t pid;
+    int files[MOST_DESCRIPTORS];                            // by descriptor; 0 where it is free
+    struct lock_call *first, *last, *current;
+    uint64_t tag;                                           // of the current call
+    int64_t since;                                          // when that was told to the seat
+};
+static struct owner owners[MOST_PROCESSES + 1];
+
+static struct owner *owner_of(uint64_t id, bool make) {
+    static struct owner *last;          // (most calls come from the one before)
+    struct owner *spare = NULL;
+    if (last && last->used && last->id == id)
+        return last;
+    for (int k = 1; k <= MOST_PROCESSES; k++) {
+        if (owners[k].used && owners[k].id == id)
+            return last = &owners[k];
+        if (!owners[k].used && !spare)
+            spare = &owners[k];
+    }
+    if (!make || !spare)
+        return NULL;
+    uint32_t tags = spare->tags;
+    *spare = (struct owner){.id = id, .used = true, .process = (int)(spare - owners), .tags = tags};
+    return last = spare;
+}
+
+static struct owner *owner_of_tag(uint64_t tag) {
+    uint64_t process = tag >> 32;
+    if (process < 1 || process > MOST_PROCESSES)
+        return NULL;
+    struct owner *owner = &owners[process];
+    return owner->current && owner->tag == tag ? owner : NULL;
+}
+
+// -1 where there is none.
+static int owner_descriptor(const struct owner *owner, int file) {
+    for (int k = 0; k < MOST_DESCRIPTORS; k++)
+        if (owner->files[k] == file)
+            return k;
+    return -1;
+}
+
+static bool owner_has_other(const struct owner *owner, int descriptor) {
+    for (int k = 0; k < MOST_DESCRIPTORS; k++)
+        if (owner->files[k] && k != descriptor)
+            return true;
+    return false;
+}
+
+static void owner_queue(struct owner *owner, struct lock_call *call) {
+    call->next = NULL;
+    if (owner->last)
+        owner->last->next = call;
+    else
+        owner->first = call;
+    owner->last = call;
+}
+
+static struct lock_call *owner_unqueue(struct owner *owner, uint64_t id) {
+    struct lock_call *before = NULL;
+    for (struct lock_call *call = owner->first; call; before = call, call = call->next) {
+        if (call->id != id)
+            continue;
+        if (before)
+            before->next = call->next;
+        else
+            owner->first = call->next;
+        if (owner->last == call)
+            owner->last = before;
+        return call;
+    }
+    return NULL;
+}
 
 enum { TRIES = 1000 };              // ticks for which a call asks for a number of its file (a machine under load may answer none for a hundred)
 static const int64_t TURN = 20 * (int64_t)MS;       // of a wait, where another call of its owner is queued behind it

@@ -1,9 +1,6 @@
 #define _GNU_SOURCE
-#include "seat.h"
-#include "lease.h"
+#include "cluster.h"
 #include "locks.h"
-#include "log.h"
-#include "mail.h"
 #include <errno.h>
 #include <fcntl.h>
 #include <signal.h>
@@ -20,6 +17,64 @@ enum { PIPE = 1 << 20, AT_ONCE = 65536, RESTS = 300 };      // (a server that ha
 struct seat *node_seat, *server_seats[MOST_FILES + 1];
 static struct seat *seats;
 
+// Cuts off the log what stands behind its first blocks: that was read by nobody, so it happened to nobody but the seat.
+static void log_cut(const char *path, long blocks) {
+    char *line = NULL;
+    size_t room = 0;
+    off_t end = 0;
+    FILE *file = fopen(path, "r");
+    if (!file)
+        return;
+    while (blocks > 0 && getline(&line, &room, file) > 0) {
+        if (strncmp(line, "end ", 4) && strncmp(line, "refused ", 8))
+            continue;
+        end = ftello(file);
+        blocks--;
+    }
+    free(line);
+    fclose(file);
+    if (truncate(path, end))
+        say("%s is not cut: %m", path);
+}
+
+static int host_of(bool is_node, int number) {
+    if (is_node)
+        return number >= 1 && number <= settings.nodes ? number : 0;
+    return number >= 1 && number <= settings.files && cluster.servers[number].runs ? cluster.servers[number].host : 0;
+}
+
+static void deliver(bool is_node, int number, const char *message) {
+    if (!is_node && !server_seats[number])
+        changes_begin_server(number);
+    struct seat *seat = is_node ? node_seat : server_seats[number];
+    if (seat)
+        seat_tell(seat, TOLD_MESSAGE, 0, "deliver %s", message);
+}
+
+static void mail_route(bool is_node, int number, const char *message) {
+    int host = host_of(is_node, number);
+    if (host == settings.me) {
+        deliver(is_node, number, message);
+    } else if (host) {
+        int dice = settings.loss ? rand() % 100 : 50;       // (for tests: some are lost, as many come twice)
+        struct buffer line = {0};
+        add_text(&line, "%c %d %s", is_node ? 'n' : 's', number, message);
+        for (int times = dice < settings.loss ? 0 : dice >= 100 - settings.loss ? 2 : 1; times > 0; times--)
+            agree->post(host, line.bytes, line.length);
+        drop_buffer(&line);
+    }
+}
+
+void mail_came(const char *line) {
+    char *end;
+    bool is_node = line[0] == 'n';
+    if (!is_formed || !line[0] || line[1] != ' ')
+        return;
+    long number = strtol(line + 2, &end, 10);
+    if (*end == ' ' && host_of(is_node, (int)number) == settings.me)
+        deliver(is_node, (int)number, end + 1);
+}
+
 static void expect(struct seat *seat, enum told what, uint64_t of) {
     if (seat->count == seat->room) {
         size_t room = seat->room ? seat->room * 2 : 64;
@@ -35,14 +90,11 @@ static void expect(struct seat *seat, enum told what, uint64_t of) {
 }
 
 void seat_tell(struct seat *seat, enum told what, uint64_t of, const char *format, ...) {
-    char *text;
     va_list words;
     va_start(words, format);
-    int length = text_of(&text, format, words);
+    add_words(&seat->to, format, words);
     va_end(words);
-    text[length] = '\n';
-    add(&seat->to, text, length + 1);
-    free(text);
+    add(&seat->to, "\n", 1);
     expect(seat, what, of);
     if (what != TOLD_TICK)
         seat->rests = 0;

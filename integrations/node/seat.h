@@ -2,7 +2,6 @@
 #ifndef SEAT_H
 #define SEAT_H
 #include "base.h"
-#include "loop.h"
 #include <sys/types.h>
 
 // What a line was told for: its block is taken by that.
@@ -35,4 +34,7 @@ void seat_end(struct seat *seat);
 void seats_flush(void);
 void seats_kill_and_cut(void);
 extern struct seat *node_seat, *server_seats[MOST_FILES + 1];
+
+// Messages of seats: each is brought to the seat that it is for, on this node or another.
+void mail_came(const char *line);           // `n N MESSAGE` or `s F MESSAGE`, from another node
 #endif
