@@ -140,7 +140,6 @@ void fs_mount(void) {
         umount2(settings.mountpoint, MNT_DETACH);       // (of a daemon before this one)
     operations.init = begin;
     names_operations(&operations);
-    attribute_operations(&operations);
     data_operations(&operations);
     lock_operations(&operations);
     umask(0);

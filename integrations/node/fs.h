@@ -37,7 +37,6 @@ void handle_add_owner(struct handle *handle, uint64_t owner);
 
 void names_operations(struct fuse_lowlevel_ops *operations);
 void data_operations(struct fuse_lowlevel_ops *operations);
-void attribute_operations(struct fuse_lowlevel_ops *operations);
 void lock_operations(struct fuse_lowlevel_ops *operations);
 void fs_mount(void);
 void fs_serve(void);

@@ -1,4 +1,4 @@
-// Names: folders, links, and what makes and takes them away. Each looks at the lease before it changes anything.
+// Names: folders, links, and what makes and takes them away; and attributes. Each looks at the lease before it changes anything.
 #define _GNU_SOURCE
 #include "fs.h"
 #include <dirent.h>
@@ -161,25 +161,6 @@ static void sync_folder(fuse_req_t request, fuse_ino_t node, int data_only, stru
     reply_error(request, data_only ? fdatasync(file) : fsync(file));
 }
 
-void names_operations(struct fuse_lowlevel_ops *operations) {
-    operations->lookup = look_up;
-    operations->forget = forget;
-    operations->forget_multi = forget_many;
-    operations->mknod = make_node;
-    operations->mkdir = make_folder;
-    operations->symlink = make_symbolic_link;
-    operations->readlink = read_link;
-    operations->link = make_link;
-    operations->unlink = take_name;
-    operations->rmdir = take_folder;
-    operations->rename = rename_it;
-    operations->opendir = open_folder;
-    operations->readdir = read_folder;
-    operations->readdirplus = read_folder_plus;
-    operations->releasedir = release_folder;
-    operations->fsyncdir = sync_folder;
-}
-
 // Attributes of files, extended ones too.
 static void get(fuse_req_t request, fuse_ino_t node, struct fuse_file_info *info) {
     struct stat found;
@@ -273,7 +254,23 @@ static void get_room(fuse_req_t request, fuse_ino_t node) {
         fuse_reply_statfs(request, &found);
 }
 
-void attribute_operations(struct fuse_lowlevel_ops *operations) {
+void names_operations(struct fuse_lowlevel_ops *operations) {
+    operations->lookup = look_up;
+    operations->forget = forget;
+    operations->forget_multi = forget_many;
+    operations->mknod = make_node;
+    operations->mkdir = make_folder;
+    operations->symlink = make_symbolic_link;
+    operations->readlink = read_link;
+    operations->link = make_link;
+    operations->unlink = take_name;
+    operations->rmdir = take_folder;
+    operations->rename = rename_it;
+    operations->opendir = open_folder;
+    operations->readdir = read_folder;
+    operations->readdirplus = read_folder_plus;
+    operations->releasedir = release_folder;
+    operations->fsyncdir = sync_folder;
     operations->getattr = get;
     operations->setattr = set;
     operations->setxattr = set_extended;
