@@ -1,3 +1,1 @@
-pub mod Numbers
 pub mod Clients
-pub mod Weathers

@@ -1,9 +1,9 @@
 //! The reasons why a call has no receipt.
 ghost use Rattle.std.specs.Prelude.{◌≡◌};
-ghost use Rattle.actors.specs.rule.Numbers.{number_of, rejected_by, refused_by};
+ghost use Rattle.actors.specs.rule.Clients.{number_of, rejected_by, refused_by};
 
-use book::commit_error::CommitError;
-use messages::refusal::StepError;
+use book::CommitError;
+use messages::StepError;
 use thiserror::Error;
 
 /// The reason why a call of a client has no receipt.

@@ -2,17 +2,13 @@
 ghost use Rattle.std.specs.Prelude.{◌≡◌, ◌↔◌, IsTrue, IfOk, IfSome, OnErr, max, unwrap_or};
 ghost use Rattle.actors.specs.rule.Clients.{ClientFields, IsMadeBy};
 
-use crate::call_error::CallError;
-use crate::direct::Direct;
-use crate::gate::Gate;
-use crate::letter::{CallResult, Letter, Question};
-use book::mark::Mark;
-use book::receipt::Receipt;
-use book::trail_name::Name;
+use crate::{
+    CallError, CallResult, Cluster, Desk, Gate, Letter, Mailbox, Question, lock, may_release,
+};
+use book::{Mark, Name, Receipt, Seat, Stamp};
 use crossbeam_channel::{Receiver, SendError, Sender, bounded};
-use model::op::Op;
-use model::process::Process;
-use std::alloc::Global;
+use messages::{Event, NodeInput};
+use model::{Op, Process};
 use std::marker::Model;
 use std::sync::Wait;
 
@@ -23,9 +19,9 @@ use std::sync::Wait;
 pub struct Client<'a, J: Name, G: Gate> {
     process: Process,
     last: Option<Mark>,
-    alloc: Global,
-    mailbox: &'a Sender<Letter>,
-    direct: Option<Direct<'a, J, G>>,
+    cluster: Cluster<'a, J, G>,
+    mailbox: &'a Mailbox,
+    desk: Option<&'a Desk<J>>,
     answers: Option<Receiver<CallResult>>,
 }
 
@@ -39,21 +35,22 @@ impl<'a, J: Name, G: Gate> Model for Client<'a, J, G> {
 }
 
 impl<'a, J: Name, G: Gate> Client<'a, J, G> {
-    /// A client of the process that has seen nothing of the journal.
+    /// A client of the process that has seen nothing of the journal. It makes calls itself at the desk, if there is
+    /// one.
     pub(crate) fn new(
-        alloc: Global,
+        cluster: Cluster<'a, J, G>,
         process: Process,
-        mailbox: &'a Sender<Letter>,
-        direct: Option<Direct<'a, J, G>>,
+        mailbox: &'a Mailbox,
+        desk: Option<&'a Desk<J>>,
     ) -> Client<'a, J, G>
         ensures { result ≡ record { process = process; last = 0 } }
     {
         Client {
             process,
             last: None,
-            alloc,
+            cluster,
             mailbox,
-            direct,
+            desk,
             answers: None,
         }
     }
@@ -127,14 +124,46 @@ impl<'a, J: Name, G: Gate> Client<'a, J, G> {
     fn make<R: Wait>(&self, rt: &R, op: Op) -> Option<CallResult>
         ensures { IfSome result (λ answer. IfOk answer (IsMadeBy self.now op)) }
     {
-        let direct = self.direct.as_ref()?;
-        let stamp = direct.make(rt, self.process, op, self.last.as_ref())?;
+        let stamp = self.make_at(rt, self.desk?, op)?;
         match Receipt::of(&stamp, &stamp) {
             Some(receipt) if self.has_made(&receipt, op) => Some(Ok(receipt)),
             _ => Some(Err(CallError::Unanswered {
                 call_at: stamp.position(),
             })),
         }
+    }
+
+    // Makes the call at the node's desk, if the step answers the call and sends no message, and the node has no open
+    // call that the step may help. `None` where the call isn't made, for whatever reason: the worker then makes it, or
+    // says why not.
+    fn make_at<R: Wait>(&self, rt: &R, desk: &Desk<J>, op: Op) -> Option<Stamp> {
+        if self.cluster.begun.halt.is_set() {
+            return None;
+        }
+        let mut work = lock(rt, desk);
+        if work.seat.incarnation() != self.process.incarnation {
+            return None;
+        }
+        if work.has_open && may_release(&op) {
+            return None;
+        }
+        let pid = self.process.pid;
+        let event = Event::AtNode(self.process.node, NodeInput::Call { pid, op });
+        let stamp = self.step(rt, &mut work.seat, event);
+        let _ = work.seat.catch_up(self.cluster.alloc()); // where memory is refused, the next step does it
+        stamp
+    }
+
+    // Prepares the step of the seat at the call without the book's lock, and commits it, if it answers the call and
+    // sends no message.
+    fn step<R: Wait>(&self, rt: &R, seat: &mut Seat<J>, call: Event) -> Option<Stamp> {
+        let prepared = seat.prepare(self.cluster.alloc(), call).ok()?;
+        let outcome = prepared.outcome();
+        if outcome.reply.is_none() || !outcome.sends.is_empty() {
+            return None;
+        }
+        let committed = self.cluster.commit(rt, seat, prepared, self.last.as_ref());
+        committed.ok()
     }
 
     // Has the node's worker make the call, and waits for its reply.
@@ -144,7 +173,7 @@ impl<'a, J: Name, G: Gate> Client<'a, J, G> {
     {
         let (answers, back) = self.path()?;
         let letter = Letter::Ask(self.question(op, back));
-        match self.mailbox.send(rt, letter) {
+        match self.mailbox.letters.send(rt, letter) {
             Ok(()) => {}
             Err(SendError::Disconnected(_)) => return Err(CallError::Closed),
             Err(SendError::OutOfMemory(_)) => return Err(CallError::NoMemory),
@@ -161,7 +190,7 @@ impl<'a, J: Name, G: Gate> Client<'a, J, G> {
         if let Some(answers) = self.answers.take() {
             return Ok((answers, None));
         }
-        match bounded(self.alloc, 1) {
+        match bounded(self.cluster.alloc(), 1) {
             Ok((back, answers)) => Ok((answers, Some(back))),
             Err(_) => Err(CallError::NoMemory),
         }

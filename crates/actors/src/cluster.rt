@@ -1,29 +1,18 @@
 //! A cluster that runs on threads.
-ghost use Rattle.std.specs.Prelude.{◌≡◌, ◌+◌, ◌≤◌, ◌↔◌, IfOk, IsErrOf, length};
+ghost use Rattle.std.specs.Prelude.{◌≡◌, ◌+◌, ◌↔◌, IfOk, IsErrOf, length};
 ghost use Rattle.actors.specs.declared.call_error.CallError.TheVariants.{Stranger};
-ghost use Rattle.model.specs.rule.Limits.{IsNumber, most_nodes, most_processes};
+ghost use Rattle.model.specs.rule.Limits.{IsNumber, most_processes};
 ghost use Rattle.cluster_core.specs.rule.Histories.{HasOneHistory};
 
-use crate::begun::{Begun, begin, start_all};
-use crate::call_error::CallError;
-use crate::client::Client;
-use crate::desk::Desk;
-use crate::direct::Direct;
-use crate::gate::{Gate, OpenGate};
-use crate::halt::Halt;
-use crate::node_place::NodePlace;
-use crate::rebuilt::Rebuilt;
-use crate::shared::{Mailbox, index_of};
-use crate::stuck::is_stuck;
-use crate::weather::Weather;
-use book::book::Book;
-use book::seat::Seat;
-use book::trail_name::Name;
-use cluster_core::journal::Journal;
-use messages::actor::Actor;
-use messages::shape::Shape;
-use model::limits::MOST_PROCESSES;
-use model::process::Process;
+use crate::{
+    Begun, CallError, Client, Gate, Letter, Mailbox, NodePlace, OpenGate, ServerPlace, Weather,
+    begin, is_stuck, start_all,
+};
+use book::{Book, Name};
+use cluster_core::Journal;
+use crossbeam_channel::SendError;
+use messages::{Actor, Shape, SharedMessage};
+use model::{MOST_PROCESSES, Process};
 use std::alloc::{AllocError, Global};
 use std::marker::Brand;
 use std::sync::{Mutex, Wait};
@@ -33,90 +22,105 @@ use std::time::Clock;
 
 mod failures;
 
-/// A cluster that runs on threads, with the gate that is told of the steps that clients make themselves. Where
-/// clients may make none, because the actors' gate isn't open, it has no desks.
+/// A cluster that runs on threads: its parts, the book under its lock, and the gate that is told of the steps that its
+/// threads make. Clients make steps themselves where the gate is open to them.
 #[derive(Drop)]
-pub struct Cluster<'a, J: Name, G: Gate> {
-    alloc: Global,
-    nodes: u8,
-    book: &'a Mutex<Book<J>>,
-    gate: &'a G,
-    mailboxes: &'a [Mailbox],
-    desks: &'a [Desk<J>],
-    places: &'a [Mutex<NodePlace<J>>],
-    rebuilt: &'a [Mutex<Option<Rebuilt<J>>>],
-    halt: &'a Halt,
-    ghost within: { IsNumber most_nodes nodes },
-    ghost has_mailboxes: { nodes ≤ length mailboxes.now },
-    ghost has_places: { length places.now ≡ nodes },
+pub struct Cluster<'a, J: Name, G> {
+    pub(crate) begun: &'a Begun<J>,
+    pub(crate) book: &'a Mutex<Book<J>>,
+    pub(crate) gate: &'a G,
+    is_open: bool,
 }
 
-impl<'a, J: Name, G: Gate> Cluster<'a, J, G> {
-    /// The cluster of these parts, which is lent to callers of the nodes. Its gate is told of the steps that clients make
-    /// themselves, which they may if the gate is open to them.
+impl<'a, J: Name, G> Cluster<'a, J, G> {
+    /// The cluster of these parts, which is lent to its workers and to callers of the nodes. Its gate is told of the
+    /// steps that clients make themselves, which they may if it is open to them.
     pub fn of(
         begun: &'a Begun<J>,
         book: &'a Mutex<Book<J>>,
         gate: &'a G,
         is_open: bool,
     ) -> Cluster<'a, J, G> {
-        let desks: &'a [Desk<J>] = if is_open { begun.desks.as_slice() } else { &[] };
         Cluster {
-            alloc: begun.alloc,
-            nodes: begun.nodes,
+            begun,
             book,
             gate,
-            mailboxes: begun.mailboxes.as_slice(),
-            desks,
-            places: begun.places.as_slice(),
-            rebuilt: begun.rebuilt.as_slice(),
-            halt: &begun.halt,
+            is_open,
         }
     }
 
-    // The place of the node, if the cluster has it.
-    fn place(&self, node: u8) -> Option<&'a Mutex<NodePlace<J>>> {
-        self.places.get(usize::from(node).checked_sub(1)?)
+    /// The place of the node, if the cluster has it.
+    pub(crate) fn place(&self, node: u8) -> Option<&'a Mutex<NodePlace<J>>> {
+        self.begun.places.get(usize::from(node).checked_sub(1)?)
     }
 
-    // The place for the file's token server as it begins again, if the cluster has it.
-    fn server_place(&self, file: u16) -> Option<&'a Mutex<Option<Rebuilt<J>>>> {
-        self.rebuilt.get(usize::from(file).checked_sub(1)?)
+    /// The place for the file's token server as it begins again, if the cluster has it.
+    pub(crate) fn server_place(&self, file: u16) -> Option<&'a ServerPlace<J>> {
+        let index = usize::from(file).checked_sub(1)?;
+        self.begun.server_places.get(index)
+    }
+
+    /// The mailbox of the actor, if the cluster has it.
+    pub(crate) fn mailbox(&self, actor: Actor) -> Option<&'a Mailbox> {
+        let before = match actor {
+            Actor::Node(node) => usize::from(node),
+            Actor::Server(file) => usize::from(self.begun.nodes) + usize::from(file),
+        };
+        self.begun.mailboxes.get(before.checked_sub(1)?)
+    }
+
+    /// Puts the message, shared, into the mailbox of its addressee, as `deliver` does.
+    pub(crate) fn send<R: Wait>(&self, rt: &R, message: &SharedMessage) {
+        match message.share() {
+            Ok(shared) => self.deliver(rt, shared),
+            Err(_) => self.begun.halt.note_refused(),
+        }
+    }
+
+    /// Puts the message into the mailbox of its addressee. A message for which there is no memory is lost.
+    pub(crate) fn deliver<R: Wait>(&self, rt: &R, message: SharedMessage) {
+        let Some(mailbox) = self.mailbox(message.get().addressee()) else {
+            return;
+        };
+        if let Err(SendError::OutOfMemory(_)) = mailbox.letters.send(rt, Letter::Deliver(message)) {
+            self.begun.halt.note_refused();
+        }
     }
 
     /// The allocator from which memory is taken.
     pub fn alloc(&self) -> Global {
-        self.alloc
+        self.begun.alloc
     }
 
     /// Ends the workers before they take another letter. Calls that are open then are answered `Unanswered`, and
     /// later ones `Closed`. (A call that a client is just making itself may still be answered.)
     pub fn stop(&self) {
-        self.halt.set();
+        self.begun.halt.set();
     }
 
     /// Whether the workers end, or have ended, because too many requests for memory were refused.
     pub fn is_short(&self) -> bool {
-        self.halt.is_short()
+        self.begun.halt.is_short()
     }
 
     /// Whether the open calls of that many processes can't be answered any more, where the token servers of these
     /// files are declared failed.
     pub fn is_stuck<R: Wait>(&self, rt: &R, processes: usize, failed: &[u16]) -> bool {
-        is_stuck(self.alloc, self.book.lock(rt).entries(), processes, failed)
+        is_stuck(
+            self.alloc(),
+            self.book.lock(rt).entries(),
+            processes,
+            failed,
+        )
     }
 
     /// The number of entries of the journal.
     pub fn len<R: Wait>(&self, rt: &R) -> u32 {
         self.book.lock(rt).len()
     }
+}
 
-    // The mailbox of the token server of the file, if the cluster has it.
-    fn server_mailbox(&self, file: u16) -> Option<&'a Mailbox> {
-        self.mailboxes
-            .get(index_of(self.nodes, Actor::Server(file))?)
-    }
-
+impl<'a, J: Name, G: Gate> Cluster<'a, J, G> {
     /// A client of a process of the node's live incarnation, which has seen nothing of the journal.
     ///
     /// # Errors
@@ -126,27 +130,27 @@ impl<'a, J: Name, G: Gate> Cluster<'a, J, G> {
     pub fn client<R: Wait>(&self, rt: &R, node: u8, pid: u16) -> Result<Client<'a, J, G>, CallError>
         ensures process { IfOk result (λ client. (client.process.node ≡ node) × (client.process.pid ≡ pid)) }
         ensures fresh { IfOk result (λ client. client.last ≡ 0) }
-        ensures stranger { IsErrOf result Stranger ↔ (IsNumber self.now.nodes node × IsNumber most_processes pid → ⊥) }
+        ensures stranger { IsErrOf result Stranger ↔ (IsNumber self.now.begun.now.nodes node × IsNumber most_processes pid → ⊥) }
     {
-        if node < 1 || node > self.nodes || pid < 1 || pid > MOST_PROCESSES {
+        let begun = self.begun;
+        if node < 1 || node > begun.nodes || pid < 1 || pid > MOST_PROCESSES {
             return Err(CallError::Stranger);
         }
         let index = usize::from(node) - 1;
-        let mailbox = &self.mailboxes[index];
-        let incarnation = self.places[index].lock(rt).hand_out(pid)?;
+        let mailbox = &begun.mailboxes[index];
+        let incarnation = begun.places[index].lock(rt).hand_out(pid)?;
         let process = Process {
             node,
             incarnation,
             pid,
         };
-        let direct = self.direct(index);
-        Ok(Client::new(self.alloc, process, &mailbox.letters, direct))
-    }
-
-    // The parts that a client needs to make calls at the desk of the node at the index.
-    fn direct(&self, index: usize) -> Option<Direct<'a, J, G>> {
-        let desk = self.desks.get(index)?;
-        Some(Direct::new(self.alloc, desk, self.book, self.gate, self.halt))
+        let desk = if self.is_open {
+            begun.desks.get(index)
+        } else {
+            None
+        };
+        let cluster = Cluster::of(begun, self.book, self.gate, self.is_open);
+        Ok(Client::new(cluster, process, mailbox, desk))
     }
 }
 
@@ -183,37 +187,11 @@ pub fn with_cluster<
 {
     let (book, seats) = Book::new(alloc, shape, None)?;
     let book = Mutex::new(book);
-    let made = run_body(rt, alloc, shape, gate, &book, seats, weathers, body)?;
-    let (journal, _) = book.into_inner().into_journal();
-    Ok((made, journal))
-}
-
-// Starts the threads, calls the body and stops the threads. (The runs of scripts do the same without a
-// body: a bound on a body can't name a trail.)
-fn run_body<
-    G: Gate + Sync,
-    W: Weather + Send,
-    R: Threads + Wait + Clock + Sync,
-    T,
-    F: FnOnce(&Cluster<'_, Brand, OpenGate>) -> T,
->(
-    rt: &R,
-    alloc: Global,
-    shape: Shape,
-    gate: &G,
-    book: &Mutex<Book<Brand>>,
-    seats: Vec<Seat<Brand>>,
-    weathers: Vec<W>,
-    body: F,
-) -> Result<T, AllocError>
-    requires seats { length seats.items ≡ shape.nodes + shape.files }
-    requires body { F.IsAlwaysCallable body }
-{
-    let (begun, workers) = begin(alloc, shape, seats, weathers)?;
-    let shared = begun.shared(book, gate);
-    let cluster = Cluster::of(&begun, book, &OpenGate, gate.is_open());
-    thread::scope(thread::scope_env(), rt, |scope| {
-        let all = start_all(scope, rt, &shared, workers);
+    let (begun, inboxes) = begin(alloc, shape, seats)?;
+    let of_workers = Cluster::of(&begun, &book, gate, false);
+    let cluster = Cluster::of(&begun, &book, &OpenGate, gate.is_open());
+    let made = thread::scope(thread::scope_env(), rt, |scope| {
+        let all = start_all(scope, rt, &of_workers, inboxes, weathers);
         let made = if all {
             Ok(body(&cluster))
         } else {
@@ -221,5 +199,7 @@ fn run_body<
         };
         cluster.stop();
         made
-    })
+    })?;
+    let (journal, _) = book.into_inner().into_journal();
+    Ok((made, journal))
 }

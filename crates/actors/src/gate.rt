@@ -1,5 +1,5 @@
 //! Gates: where a test can hold an actor between preparing and committing a step.
-use messages::actor::Actor;
+use messages::Actor;
 
 /// A moment in the work of an actor, of which a gate is told.
 #[derive(Clone, Copy, Debug, PartialEq, Eq)]

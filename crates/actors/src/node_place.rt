@@ -1,12 +1,10 @@
 //! The place of a node: what a running cluster knows of it.
 ghost use Rattle.std.specs.Prelude.{◌≡◌, ◌≢◌, ◌≤◌, ◌↔◌, ◌++◌, ◌∷◌, Contains, Err, None, Some, [], false, true, IfErr, IfOk, OnErr};
-ghost use Rattle.book.specs.rule.Fields.{seat_state};
-ghost use Rattle.book.specs.rule.States.{incarnation_of};
+ghost use Rattle.book.specs.rule.States.{seat_state, incarnation_of};
 ghost use Rattle.actors.specs.declared.call_error.CallError.TheVariants.{Busy, Fenced, Stranger};
 
 use crate::call_error::CallError;
-use book::seat::Seat;
-use book::trail_name::Name;
+use book::{Name, Seat};
 use std::alloc::Global;
 
 /// The knowledge that a running cluster has of a node: its last incarnation and whether that one is alive, the

@@ -1,10 +1,10 @@
 //! The weather that a seed gives: messages are lost, doubled and held back by chance.
 ghost use Rattle.std.specs.Prelude.{◌≡◌};
 ghost use Rattle.rand_pcg.specs.Pcg.{pcg32};
-ghost use Rattle.actors.specs.rule.Weathers.{fate_of, weather_of};
+ghost use Rattle.actors.specs.rule.Clients.{fate_of, weather_of};
 
 use crate::weather::{Fate, Weather};
-use messages::message::Message;
+use messages::Message;
 use rand_core::SeedableRng;
 use rand_core::utils::NextWord;
 use rand_pcg::Lcg64Xsh32;

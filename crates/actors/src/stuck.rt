@@ -1,11 +1,8 @@
 //! The test whether a run is stuck: no open call can be answered any more.
-use messages::command_number::CommandNumber;
-use messages::entry::Entry;
-use messages::event::{Event, NodeInput, ServerInput};
-use messages::message::{Blocking, Message};
-use messages::shared_message::SharedMessage;
-use model::call::CallId;
-use model::host::Host;
+use messages::{
+    Blocking, CommandNumber, Entry, Event, Message, NodeInput, ServerInput, SharedMessage,
+};
+use model::{CallId, Host};
 use std::alloc::{AllocError, Global};
 
 /// An open call as its node tried it again: its process, and the request that the try sent, if no lock of its own
@@ -73,17 +70,15 @@ fn tries_in(alloc: Global, entries: &[Entry]) -> Result<Vec<Try>, AllocError> {
         let Some(next) = try_of(entry) else {
             continue;
         };
-        match tries.iter_mut().find(|one| is_of(one, &next)) {
+        match tries
+            .iter_mut()
+            .find(|one| one.node == next.node && one.pid == next.pid)
+        {
             Some(one) => *one = next,
             None => tries.push(next)?,
         }
     }
     Ok(tries)
-}
-
-// Whether both tries are of one process.
-fn is_of(one: &Try, other: &Try) -> bool {
-    one.node == other.node && one.pid == other.pid
 }
 
 // The try that the entry makes, if it makes one.
@@ -141,21 +136,17 @@ fn has_met_locks(entries: &[Entry], call: &CallId) -> bool {
 }
 
 // The node whose lock blocks the call, if the entry sends a conflict for it, and the number of the command.
-fn conflict_of(entry: &Entry, call: &CallId) -> Option<(Host, CommandNumber)> {
+fn conflict_of(entry: &Entry, about: &CallId) -> Option<(Host, CommandNumber)> {
     entry
         .sends()
         .iter()
-        .find_map(|message| conflict_about(message.get(), call))
-}
-
-fn conflict_about(message: &Message, about: &CallId) -> Option<(Host, CommandNumber)> {
-    match message {
-        Message::Conflict {
-            holder,
-            number,
-            call,
-            ..
-        } if call == about => Some((*holder, *number)),
-        _ => None,
-    }
+        .find_map(|message| match message.get() {
+            Message::Conflict {
+                holder,
+                number,
+                call,
+                ..
+            } if call == about => Some((*holder, *number)),
+            _ => None,
+        })
 }

@@ -3,14 +3,9 @@ ghost use Rattle.std.specs.Prelude.{◌≡◌, ◌<◌, ◌≤◌, vec_len, OnOk
 ghost use Rattle.std.specs.Vec.{vec_capacity};
 
 use crate::call_error::CallError;
-use book::receipt::Receipt;
-use book::stamp::Stamp;
-use messages::event::{Event, NodeInput};
-use messages::message::Message;
-use messages::patience::Patience;
-use model::mode::Mode;
-use model::op::{LockCommand, Op};
-use model::process::Process;
+use book::{Receipt, Stamp};
+use messages::{Event, Message, NodeInput, Patience};
+use model::{LockCommand, Mode, Op, Process};
 use std::alloc::{AllocError, Global};
 use std::mem;
 
@@ -63,14 +58,18 @@ impl UnansweredCall {
         }
     }
 
-    // Notes a step of the node, which may have tried the call again.
+    // Notes a step of the node, which may have tried the call again, or brought a grant for it.
     fn note(&mut self, step: &Stamp) {
-        let event = step.event();
-        if retried(event) == Some(self.process.pid) {
-            self.blocked_here = step.outcome().sends.is_empty();
-        }
-        if let Some(number) = granted(event) {
-            self.blocked_here = self.blocked_here || self.has_number(number);
+        match step.event() {
+            Event::AtNode(_, NodeInput::Retry { pid }) if *pid == self.process.pid => {
+                self.blocked_here = step.outcome().sends.is_empty();
+            }
+            Event::Deliver(message) => {
+                if let Message::Grant { call, .. } = message.get() {
+                    self.blocked_here = self.blocked_here || self.has_number(call.number);
+                }
+            }
+            _ => {}
         }
     }
 }
@@ -81,30 +80,6 @@ pub(crate) fn may_release(op: &Op) -> bool {
         Op::Unlock { .. } | Op::Close { .. } | Op::Exit => true,
         Op::Lock(call) => call.command != LockCommand::Query && call.mode == Mode::Read,
         Op::Process(_) => false,
-    }
-}
-
-// The process whose call the event tries again, if it is a retry.
-fn retried(event: &Event) -> Option<u16> {
-    match event {
-        Event::AtNode(_, NodeInput::Retry { pid }) => Some(*pid),
-        _ => None,
-    }
-}
-
-// The number of the call for which the event delivers a grant, if it delivers one.
-fn granted(event: &Event) -> Option<u32> {
-    match event {
-        Event::Deliver(message) => asker(message.get()),
-        _ => None,
-    }
-}
-
-// The number of the call for which the message is a grant, if it is one.
-fn asker(message: &Message) -> Option<u32> {
-    match message {
-        Message::Grant { call, .. } => Some(call.number),
-        _ => None,
     }
 }
 

@@ -2,7 +2,7 @@
 ghost use Rattle.std.specs.Prelude.{◌≡◌};
 ghost use Rattle.actors.specs.declared.weather.Fate.TheVariants.{Pass};
 
-use messages::message::Message;
+use messages::Message;
 
 /// The fate of a message that an actor sends.
 #[derive(Clone, Copy, Debug, PartialEq, Eq)]

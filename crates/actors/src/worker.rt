@@ -1,35 +1,18 @@
 //! The worker of an actor: the thread that takes its letters and makes its steps.
 ghost use Rattle.std.specs.Prelude.{◌<◌};
-ghost use Rattle.book.specs.rule.Commits.{Names};
-ghost use Rattle.book.specs.code.Copies.{IsStepFrom};
 
-use crate::call_error::CallError;
-use crate::commits::commit;
-use crate::desk::Desk;
-use crate::gate::Gate;
-use crate::letter::Letter;
-use crate::locks::lock;
-use crate::outgoing::Outgoing;
-use crate::rebuilt::Rebuilt;
-use crate::return_paths::ReturnPaths;
-use crate::shared::Shared;
-use crate::unanswered_calls::UnansweredCalls;
-use crate::weather::Weather;
-use book::mark::Mark;
-use book::prepared::Prepared;
-use book::seat::Seat;
-use book::stamp::Stamp;
-use book::trail_name::Name;
-use crossbeam_channel::{Receiver, RecvTimeoutError};
-use messages::actor::Actor;
-use messages::event::{Event, ServerInput};
-use messages::pace::Pace;
-use std::alloc::Global;
+use crate::{
+    CallError, CallResult, Cluster, Desk, Gate, Letter, Outgoing, UnansweredCalls, Weather, lock,
+};
+use book::{Mark, Name, Seat, Stamp};
+use crossbeam_channel::{Receiver, RecvTimeoutError, Sender};
+use messages::{Actor, Event, Pace, ServerInput};
+use model::Process;
+use std::collections::BTreeMap;
 use std::sync::Wait;
 use std::sync::atomic::Ordering;
 use std::time::{Clock, Duration};
 
-mod endings;
 mod questions;
 mod tries;
 
@@ -38,89 +21,77 @@ mod tries;
 const LONGEST_SLEEP: u64 = 250;
 
 /// The worker of an actor. It has the reason why no step is taken any more, if there is one; the messages on their
-/// way; the mailbox, and whether the last tick has not been given back. For a node it has the channels to its clients
-/// and their open calls; for a token server the time at which it sends again. The seat is at the actor's desk.
+/// way; the mailbox, and whether the last tick has not been given back. For a node it has the channels for answers to
+/// its clients, each by the incarnation and the number of its process, and their open calls; for a token server the
+/// time at which it sends again. The seat is at the actor's desk.
+///
+/// A client hands the sending end of its channel over with a question and keeps none: so it sees that no answer comes
+/// any more where the worker ends.
 #[derive(Drop)]
-pub struct Worker<W: Weather> {
+pub(crate) struct Worker<'s, 'b, J: Name, G: Gate, R: Wait, W: Weather> {
+    rt: &'s R,
+    cluster: &'s Cluster<'b, J, G>,
+    desk: &'s Desk<J>,
     actor: Actor,
     over: Option<CallError>,
-    outgoing: Outgoing<W>,
+    outgoing: Outgoing<'s, 'b, J, G, R, W>,
     inbox: Receiver<Letter>,
     has_tick: bool,
-    paths: ReturnPaths,
+    paths: BTreeMap<(u16, u16), Sender<CallResult>>,
     waiting: UnansweredCalls,
     pace: Pace,
 }
 
-// The cause for which open calls are tried again.
-#[derive(Clone, Copy)]
-enum Cause {
-    // A tick: the calls for which it is time are tried.
-    Tick,
-    // The node may have given up a lock: the calls that a lock of it blocks are tried.
-    Release,
-}
-
-impl<W: Weather> Worker<W> {
-    /// A worker that has done nothing.
+impl<'s, 'b, J: Name, G: Gate, R: Wait + Clock, W: Weather> Worker<'s, 'b, J, G, R, W> {
+    /// A worker at the actor's desk that has done nothing.
     pub(crate) fn new(
-        alloc: Global,
-        actor: Actor,
-        weather: W,
+        rt: &'s R,
+        cluster: &'s Cluster<'b, J, G>,
+        desk: &'s Desk<J>,
         inbox: Receiver<Letter>,
-    ) -> Worker<W> {
+        weather: W,
+    ) -> Self {
+        let actor = desk.lock(rt).seat.actor();
         Worker {
+            rt,
+            cluster,
+            desk,
             actor,
             over: None,
-            outgoing: Outgoing::new(alloc, weather),
+            outgoing: Outgoing::new(rt, cluster, weather),
             inbox,
             has_tick: true,
-            paths: ReturnPaths::new(alloc),
-            waiting: UnansweredCalls::new(alloc),
+            paths: BTreeMap::new(cluster.alloc()),
+            waiting: UnansweredCalls::new(cluster.alloc()),
             pace: Pace::at_rest(),
         }
     }
 
-    /// Takes letters until the workers are to end. (Each actor has a desk.)
-    pub(crate) fn work<J: Name, G: Gate, R: Wait + Clock>(self, rt: &R, shared: &Shared<'_, J, G>) {
+    /// Takes letters until the workers are to end. Holds the work at the desk while it takes one.
+    pub(crate) fn work(self) {
         let mut worker = self;
-        if let Some(desk) = shared.desk(worker.actor) {
-            worker.work_at(rt, shared, desk);
-        }
-        worker.leave_all(rt, shared.alloc);
-        shared.working.fetch_sub(1, Ordering::SeqCst);
-    }
-
-    // Takes letters until the workers are to end. Holds the work at the desk while it takes one.
-    fn work_at<J: Name, G: Gate, R: Wait + Clock>(
-        &mut self,
-        rt: &R,
-        shared: &Shared<'_, J, G>,
-        desk: &Desk<J>,
-    ) {
+        let (rt, desk) = (worker.rt, worker.desk);
         for _ in rt.forever() {
-            let Some(letter) = self.next_letter(rt, shared) else {
+            let Some(letter) = worker.next_letter() else {
                 break;
             };
             let mut work = lock(rt, desk);
-            self.change_seats(rt, shared, &mut work.seat);
-            self.take(rt, shared, &mut work.seat, letter);
-            let _ = work.seat.catch_up(shared.alloc); // where memory is refused, the next step does it
-            self.ask_for_tick(shared);
-            work.has_open = !self.waiting.is_empty();
+            worker.change_seats(&mut work.seat);
+            worker.take(&mut work.seat, letter);
+            let _ = work.seat.catch_up(worker.cluster.alloc()); // where memory is refused, the next step does it
+            worker.ask_for_tick();
+            work.has_open = !worker.waiting.is_empty();
         }
+        worker.leave_all();
+        worker.cluster.begun.working.fetch_sub(1, Ordering::SeqCst);
     }
 
     // The next letter; `None` where no more will come, or the workers are to end.
-    fn next_letter<J: Name, G: Gate, R: Wait + Clock>(
-        &self,
-        rt: &R,
-        shared: &Shared<'_, J, G>,
-    ) -> Option<Letter> {
+    fn next_letter(&self) -> Option<Letter> {
         let longest = Duration::from_millis(LONGEST_SLEEP);
-        for _ in rt.forever() {
-            let next = self.inbox.recv_timeout(rt, longest);
-            if shared.halt.is_set() {
+        for _ in self.rt.forever() {
+            let next = self.inbox.recv_timeout(self.rt, longest);
+            if self.cluster.begun.halt.is_set() {
                 break;
             }
             match next {
@@ -132,159 +103,140 @@ impl<W: Weather> Worker<W> {
         None
     }
 
-    // Takes the seat of a new incarnation or epoch, if there is one.
-    fn change_seats<J: Name, G: Gate, R: Wait>(
-        &mut self,
-        rt: &R,
-        shared: &Shared<'_, J, G>,
-        seat: &mut Seat<J>,
-    ) {
+    // Takes the seat of a new incarnation or epoch, if there is one. A token server then asks the nodes for their
+    // tokens.
+    fn change_seats(&mut self, seat: &mut Seat<J>) {
         match self.actor {
             Actor::Node(node) => {
-                if let Some(new) = shared.new_seat(rt, node) {
-                    self.kill_all(rt, shared.alloc);
+                if let Some(new) = self.new_seat(node) {
+                    self.kill_all();
                     *seat = new;
                     self.over = None;
                 }
             }
             Actor::Server(file) => {
-                if let Some(rebuilt) = shared.new_server(rt, file) {
-                    *seat = self.begin_again(rt, shared, rebuilt);
+                if let Some((new, asks)) = self.new_server(file) {
+                    self.pace = Pace::begun();
+                    self.outgoing.send_all(&asks);
+                    *seat = new;
                 }
             }
         }
     }
 
-    // Begins again as the token server in its new epoch, and asks the nodes for their tokens. Gives the new seat.
-    fn begin_again<J: Name, G, R: Wait>(
-        &mut self,
-        rt: &R,
-        shared: &Shared<'_, J, G>,
-        rebuilt: Rebuilt<J>,
-    ) -> Seat<J> {
-        let Rebuilt { seat, stamp } = rebuilt;
-        self.pace = Pace::begun();
-        self.outgoing.send_all(rt, shared, &stamp);
-        seat
+    // Takes the seat of a new incarnation of the node, if one waits.
+    fn new_seat(&self, node: u8) -> Option<Seat<J>> {
+        self.cluster.place(node)?.lock(self.rt).take_seat()
+    }
+
+    // Takes the seat of the file's token server that begins again, with the stamp of its beginning, if one waits.
+    fn new_server(&self, file: u16) -> Option<(Seat<J>, Stamp)> {
+        self.cluster.server_place(file)?.lock(self.rt).take()
     }
 
     // Does what the letter asks for.
-    fn take<J: Name, G: Gate, R: Wait>(
-        &mut self,
-        rt: &R,
-        shared: &Shared<'_, J, G>,
-        seat: &mut Seat<J>,
-        letter: Letter,
-    ) {
+    fn take(&mut self, seat: &mut Seat<J>, letter: Letter) {
         match letter {
-            Letter::Ask(question) => self.take_question(rt, shared, seat, question),
+            Letter::Ask(question) => self.take_question(seat, question),
             Letter::Deliver(message) => {
-                let _ = self.step(rt, shared, seat, Event::Deliver(message));
+                let _ = self.step(seat, Event::Deliver(message));
             }
-            Letter::Learn { node, incarnation } => self.learn(rt, shared, seat, node, incarnation),
-            Letter::Tick => self.take_tick(rt, shared, seat),
+            Letter::Learn { node, incarnation } => self.learn(seat, node, incarnation),
+            Letter::Tick => self.take_tick(seat),
             Letter::Begin => {}
         }
     }
 
     // Gives the last tick back to the mailbox, if there is something to do at the next.
-    fn ask_for_tick<J: Name, G>(&mut self, shared: &Shared<'_, J, G>) {
+    fn ask_for_tick(&mut self) {
         let waits = !self.waiting.is_empty() || !self.pace.rests;
         if !self.has_tick || (!waits && self.outgoing.is_empty()) {
             return;
         }
-        if let Some(mailbox) = shared.mailbox(self.actor) {
-            mailbox.take_ticks();
+        if let Some(mailbox) = self.cluster.mailbox(self.actor) {
+            mailbox.ticks.store(0, Ordering::SeqCst);
             self.has_tick = false;
         }
     }
 
     // Makes the token server learn of a declaration. If memory for it is refused, the letter comes again.
-    fn learn<J: Name, G: Gate, R: Wait>(
-        &mut self,
-        rt: &R,
-        shared: &Shared<'_, J, G>,
-        seat: &mut Seat<J>,
-        node: u8,
-        incarnation: u16,
-    ) {
+    fn learn(&mut self, seat: &mut Seat<J>, node: u8, incarnation: u16) {
         let Actor::Server(file) = self.actor else {
             return;
         };
         let news = ServerInput::Learn { node, incarnation };
-        let learned = self.step(rt, shared, seat, Event::AtServer(file, news));
+        let learned = self.step(seat, Event::AtServer(file, news));
         if learned == Err(CallError::NoMemory) {
-            if let Some(mailbox) = shared.mailbox(self.actor) {
-                mailbox.send_surely(rt, Letter::Learn { node, incarnation }, shared.halt);
+            if let Some(mailbox) = self.cluster.mailbox(self.actor) {
+                let letter = Letter::Learn { node, incarnation };
+                mailbox.send_surely(self.rt, letter, &self.cluster.begun.halt);
             }
         }
     }
 
     // Makes a step of the actor: sends its messages, and answers the call that it answers.
-    fn step<J: Name, G: Gate, R: Wait>(
-        &mut self,
-        rt: &R,
-        shared: &Shared<'_, J, G>,
-        seat: &mut Seat<J>,
-        event: Event,
-    ) -> Result<(), CallError> {
-        let stamp = commit_step(rt, shared, seat, event, None)?;
-        self.outgoing.send_all(rt, shared, &stamp);
-        self.answer_by(rt, &stamp);
+    fn step(&mut self, seat: &mut Seat<J>, event: Event) -> Result<(), CallError> {
+        let stamp = self.commit_step(seat, event, None)?;
+        self.outgoing.send_all(&stamp);
+        if let Some((call, receipt)) = self.waiting.take_answered(&stamp) {
+            self.answer(call.process(), Ok(receipt));
+        }
         match self.actor {
             Actor::Node(_) => self.waiting.note(&stamp),
             Actor::Server(_) => self.pace = self.pace.noted(stamp.event()),
         }
         Ok(())
     }
-}
 
-// Prepares a step of the seat without the book's lock, and commits it. Notes it where memory is refused for that.
-fn commit_step<J: Name, G: Gate, R: Wait>(
-    rt: &R,
-    shared: &Shared<'_, J, G>,
-    seat: &mut Seat<J>,
-    event: Event,
-    seen: Option<&Mark>,
-) -> Result<Stamp, CallError> {
-    let made = try_step(rt, shared, seat, event, seen);
-    if let Err(CallError::NoMemory) = made {
-        shared.halt.note_refused();
+    // Prepares a step of the seat without the book's lock, and commits it. Notes it where memory is refused for that.
+    fn commit_step(
+        &self,
+        seat: &mut Seat<J>,
+        event: Event,
+        seen: Option<&Mark>,
+    ) -> Result<Stamp, CallError> {
+        let made = match seat.prepare(self.cluster.alloc(), event) {
+            Ok(prepared) => self.cluster.commit(self.rt, seat, prepared, seen),
+            Err(why) => Err(CallError::from(why)),
+        };
+        if let Err(CallError::NoMemory) = made {
+            self.cluster.begun.halt.note_refused();
+        }
+        made
     }
-    made
-}
 
-// Prepares a step of the seat without the book's lock, and commits it.
-fn try_step<J: Name, G: Gate, R: Wait>(
-    rt: &R,
-    shared: &Shared<'_, J, G>,
-    seat: &mut Seat<J>,
-    event: Event,
-    seen: Option<&Mark>,
-) -> Result<Stamp, CallError> {
-    let prepared = seat.prepare(shared.alloc, event)?;
-    commit_to(rt, shared, seat, prepared, seen)
-}
+    // Answers the process. A client that is gone needs no answer.
+    fn answer(&self, process: Process, answer: CallResult) {
+        if let Some(back) = self.paths.get(&(process.incarnation, process.pid)) {
+            let _ = back.send(self.rt, answer);
+        }
+    }
 
-// Commits a step that the seat prepared.
-fn commit_to<J: Name, G: Gate, R: Wait>(
-    rt: &R,
-    shared: &Shared<'_, J, G>,
-    seat: &mut Seat<J>,
-    prepared: Prepared,
-    seen: Option<&Mark>,
-) -> Result<Stamp, CallError>
-    requires { Names prepared seat.old → IsStepFrom seat.old prepared }
-{
-    let committed = commit(
-        rt,
-        shared.alloc,
-        shared.book,
-        shared.gate,
-        shared.halt,
-        seat,
-        prepared,
-        seen,
-    );
-    Ok(committed?)
+    // Ends each open call, where the refusal says that no step of the seat is taken any more.
+    fn end_at(&mut self, refusal: CallError) {
+        match refusal {
+            CallError::Fenced => self.kill_all(),
+            CallError::JournalFull => {
+                for call in self.waiting.take_all(self.cluster.alloc()) {
+                    self.answer(call.process(), Err(refusal));
+                }
+            }
+            _ => return,
+        }
+        self.over = Some(refusal);
+    }
+
+    // Ends each open call without a reply: its node was declared failed.
+    fn kill_all(&mut self) {
+        for call in self.waiting.take_all(self.cluster.alloc()) {
+            self.answer(call.process(), Err(call.killed()));
+        }
+    }
+
+    // Leaves each open call without an answer: the worker ends.
+    fn leave_all(&mut self) {
+        for call in self.waiting.take_all(self.cluster.alloc()) {
+            self.answer(call.process(), Err(call.unanswered()));
+        }
+    }
 }

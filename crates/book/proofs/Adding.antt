@@ -1,12 +1,31 @@
--- The exchange that appends an item keeps the rule.
-use Rattle.std.proofs.Common.{◌≡◌, ℕ, ◌+◌, ◌<◌, ◌==◌, Bool, true, false, List, [], ◌∷◌, ◌++◌, length, refl, ap, sym, subst, arith, inl, length-append, MatchBool, None}
+-- The exchange that appends an item keeps the rule of a trail.
+use Rattle.std.proofs.Common.{◌≡◌, ℕ, zero, suc, ◌<◌, ◌≤◌, List, [], ◌∷◌, ◌++◌, length, Some, slice_get, refl, arith, ◌+◌, ◌==◌, Bool, true, false, ap, sym, subst, inl, length-append, MatchBool, None}
+use mathlib.Core.List.{IsPrefix}
 use Rattle.std.proofs.lemmas.List.{append-nil}
 use Rattle.std.proofs.lemmas.Bool.Decides.{nat_tests}
-use mathlib.Core.List.{IsPrefix}
 use prog.Atomic.{either}
 use Rattle.logbook.specs.Pages.{Cell, cell, keeps, no_nib, step, Moves, Goes}
 use Rattle.book.specs.rule.Trails.{IsKept, Adds}
-use Rattle.book.proofs.Beginnings.{prefix_whole}
+
+-- a prefix as long as the whole is the whole
+pub prefix_whole : {A : Type 0} (xs ys : List A) → IsPrefix xs ys → length ys ≤ length xs → xs ≡ ys
+prefix_whole [] [] p le = refl
+prefix_whole [] (y ∷ ys) p le = absurd (omega arith)
+prefix_whole (x ∷ xs) [] p le = absurd (cc (p.1))
+prefix_whole (x ∷ xs) (y ∷ ys) p le =
+    let rest = prefix_whole xs ys (p.0, cc (p.1)) (omega arith) in cc (p.1, rest)
+
+-- an element of a prefix is at the same place of the whole
+pub prefix_get : {A : Type 0} (xs ys : List A) (k : ℕ) → IsPrefix xs ys → k < length xs → slice_get xs k ≡ slice_get ys k
+prefix_get [] ys k p h = absurd (omega arith)
+prefix_get (y ∷ xs) [] k p h = absurd (cc (p.1))
+prefix_get (y ∷ xs) (z ∷ ys) zero p h = cc (p.1)
+prefix_get (y ∷ xs) (z ∷ ys) (suc k) p h = prefix_get xs ys k (p.0, cc (p.1)) (omega arith)
+
+-- the element that was appended is at the place that was the length
+pub last_get : {A : Type 0} (xs : List A) (x : A) → slice_get (xs ++ x ∷ []) (length xs) ≡ Some x
+last_get [] x = refl
+last_get (y ∷ xs) x = last_get xs x
 
 abbrev pub shown : {E : Type 0} → List E → List E
 shown log = []

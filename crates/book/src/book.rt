@@ -11,40 +11,22 @@ ghost use Rattle.cluster_core.specs.rule.Runs.{Leads};
 ghost use Rattle.cluster_core.specs.rule.Journals.{RunFields, journal_of};
 ghost use Rattle.cluster_core.specs.rule.Histories.{HasOneHistory};
 ghost use Rattle.cluster_core.specs.rule.Safe.{IsSafe};
-ghost use Rattle.book.specs.rule.Fields.{SeatFields, StampFields};
-ghost use Rattle.book.specs.rule.Receipts.{Holds, IsStampOf, IsReceiptOf};
-ghost use Rattle.book.specs.rule.Commits.{Names, IsSeatOf, Refuses, Commits, seen_at};
+ghost use Rattle.book.specs.rule.States.{SeatFields, StampFields};
+ghost use Rattle.book.specs.rule.Commits.{Holds, IsStampOf, IsReceiptOf, Names, IsSeatOf, Refuses, Commits, seen_at, Declared, Restarted, Failed, Started, IsFirstSeat};
 ghost use Rattle.book.specs.code.Copies.{IsStepFrom};
-ghost use Rattle.book.specs.rule.Turns.{Declared, Restarted, Failed, Started};
-ghost use Rattle.book.specs.rule.Seats.{IsFirstSeat};
 
 use crate::book::beginnings::{node_seats, push_servers};
-use crate::commit_error::CommitError;
 use crate::holds::holds;
-use crate::last_spots::LastSpots;
-use crate::mark::Mark;
-use crate::new_trail::NewTrail;
-use crate::prepared::Prepared;
-use crate::receipt::Receipt;
-use crate::seat::Seat;
-use crate::stamp::Stamp;
-use crate::state::State;
-use crate::tests_of::{accepts, seen_of};
-use crate::trail_name::Name;
-use cluster_core::journal::Journal;
-use cluster_core::run::Run;
-use cluster_core::world::World;
-use messages::actor::Actor;
-use messages::entry::Entry;
-use messages::event::{Event, MemberEvent};
-use messages::outcome::Outcome;
-use messages::refusal::Refused;
-use messages::sends::Sends;
-use messages::shape::Shape;
-use node_core::node::Node;
+use crate::{
+    CommitError, LastSpots, Mark, Name, NewTrail, Prepared, Receipt, Seat, Stamp, State, accepts,
+    seen_of,
+};
+use cluster_core::{Journal, Run, World};
+use messages::{Actor, Entry, Event, MemberEvent, Outcome, Refused, Sends, Shape};
+use node_core::Node;
 use std::alloc::{AllocError, Global};
 use std::marker::Model;
-use token_server::server::Server;
+use token_server::Server;
 
 mod beginnings;
 
@@ -60,7 +42,7 @@ pub struct Book<J: Name> {
 impl<J: Name> Model for Book<J> {
     ghost use Rattle.cluster_core.specs.rule.Journals.{RunFields};
     ghost use Rattle.cluster_core.specs.rule.Parts.{world_state};
-    ghost use Rattle.book.specs.code.LastSpots.{AreReached};
+    ghost use Rattle.book.specs.code.Copies.{AreReached};
 
     ghost Value = { RunFields };
 

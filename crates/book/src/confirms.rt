@@ -3,13 +3,13 @@ ghost use Rattle.std.specs.Prelude.{MatchBool};
 
 use crate::holds::holds;
 use crate::receipt::Receipt;
-use cluster_core::journal::Journal;
+use cluster_core::Journal;
 
 /// A value with a list of entries, in which it looks receipts up.
 pub trait Confirms {
     ghost use Rattle.std.specs.Prelude.{List};
     ghost use Rattle.messages.specs.declared.entry.Entry.{Entry};
-    ghost use Rattle.book.specs.rule.Receipts.{Holds};
+    ghost use Rattle.book.specs.rule.Commits.{Holds};
 
     /// The entries, in the proofs alone.
     ghost list: { Self → List Entry };

@@ -1,12 +1,10 @@
 //! The test whether entries have a receipt's call and reply.
 ghost use Rattle.std.specs.Prelude.{◌≡◌, ◌<◌, ◌≤◌, ◌-◌, ◌↔◌, IsTrue, IfSome, MatchOption, MatchBool, Some, None, slice_get};
-ghost use Rattle.book.specs.rule.Receipts.{Holds, call_in};
+ghost use Rattle.book.specs.rule.Commits.{Holds, call_in};
 
 use crate::receipt::{Receipt, call_in, same_id};
-use messages::entry::Entry;
-use model::call::CallId;
-use model::op::Op;
-use model::reply::Reply;
+use messages::Entry;
+use model::{CallId, Op, Reply};
 
 // The entry at a position, from 1, if there is one.
 fn entry_at(entries: &[Entry], position: u32) -> Option<&Entry>

@@ -1,14 +1,11 @@
 //! The spots of the actors' last states in a book's trail.
 ghost use Rattle.std.specs.Prelude.{◌≡◌, IfOk, IfSome};
-ghost use Rattle.book.specs.code.LastSpots.{IsLastSpot, IsSpotOf, Noted, Forgotten, place_of, AreReached};
-ghost use Rattle.book.specs.rule.Fields.{standing_state};
+ghost use Rattle.book.specs.code.Copies.{IsLastSpot, IsSpotOf, Noted, Forgotten, place_of, AreReached};
+ghost use Rattle.book.specs.rule.States.{standing_state};
 
-use crate::spot::Spot;
-use crate::standing::Standing;
-use crate::trail::Trail;
-use crate::trail_name::Name;
-use messages::actor::Actor;
-use model::limits::MOST_NODES;
+use crate::{Name, Spot, Standing, Trail};
+use messages::Actor;
+use model::MOST_NODES;
 use std::alloc::{AllocError, Global};
 use std::marker::Model;
 
@@ -21,7 +18,7 @@ pub(crate) struct LastSpots<J: Name> {
 }
 
 impl<J: Name> Model for LastSpots<J> {
-    ghost use Rattle.book.specs.code.LastSpots.{LastSpots};
+    ghost use Rattle.book.specs.code.Copies.{LastSpots};
 
     ghost Value = { LastSpots };
 

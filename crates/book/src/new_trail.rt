@@ -1,10 +1,7 @@
 //! The trail for a new book.
 ghost use Rattle.std.specs.Prelude.{◌≡◌};
 
-use crate::standing::Standing;
-use crate::trail::Trail;
-use crate::trail_name::Name;
-use crate::unnamed::Unnamed;
+use crate::{Name, Standing, Trail, Unnamed};
 use std::marker::Model;
 
 /// An empty trail for a new book. With a trail, a book tells by comparing two numbers that a seat is up to date. The

@@ -1,9 +1,7 @@
 //! Copies of outcomes.
 ghost use Rattle.std.specs.Prelude.{◌≡◌, IfOk};
 
-use messages::outcome::Outcome;
-use messages::sends::Sends;
-use messages::shared_message::SharedMessage;
+use messages::{Outcome, Sends, SharedMessage};
 use std::alloc::{AllocError, Global};
 
 // A list of these messages, each of which is shared with the other.

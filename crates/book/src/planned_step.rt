@@ -1,7 +1,6 @@
 //! A step as it was planned from an actor's state.
 use crate::state_edit::StateEdit;
-use messages::event::Event;
-use messages::outcome::Outcome;
+use messages::{Event, Outcome};
 
 /// A step that was planned from the copy of an actor's state: its event, its change of that copy, and its outcome.
 #[derive(Drop)]

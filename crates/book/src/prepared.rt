@@ -1,16 +1,10 @@
 //! A prepared step: planned from a seat's state, not yet committed.
 ghost use Rattle.std.specs.Prelude.{◌≡◌, ◌<◌, ◌↔◌, IfOk, IsTrue};
 ghost use Rattle.book.specs.rule.Commits.{Names};
-ghost use Rattle.book.specs.rule.Fields.{seat_state};
-ghost use Rattle.book.specs.rule.States.{actor_of, incarnation_of};
+ghost use Rattle.book.specs.rule.States.{seat_state, actor_of, incarnation_of};
 
-use crate::outcomes::copy_of;
-use crate::planned_step::PlannedStep;
-use crate::seat::Seat;
-use crate::trail_name::Name;
-use messages::actor::Actor;
-use messages::event::Event;
-use messages::outcome::Outcome;
+use crate::{Name, PlannedStep, Seat, copy_of};
+use messages::{Actor, Event, Outcome};
 use std::alloc::{AllocError, Global};
 use std::marker::Model;
 
@@ -30,7 +24,7 @@ pub struct Prepared {
 
 impl Model for Prepared {
     ghost use Rattle.std.specs.Prelude.{◌≡◌, ◌<◌};
-    ghost use Rattle.book.specs.rule.Fields.{PreparedFields};
+    ghost use Rattle.book.specs.rule.States.{PreparedFields};
 
     ghost Value = { PreparedFields };
 

@@ -1,14 +1,11 @@
 //! A receipt: the proof of a call and its reply in a journal.
 ghost use Rattle.std.specs.Prelude.{◌≡◌, ◌<◌, ◌≤◌, ◌↔◌, IsTrue, MatchOption, Option, Some};
-ghost use Rattle.book.specs.rule.Fields.{ReceiptFields};
-ghost use Rattle.book.specs.rule.Receipts.{call_in, IsReceiptOf};
+ghost use Rattle.book.specs.rule.States.{ReceiptFields};
+ghost use Rattle.book.specs.rule.Commits.{call_in, IsReceiptOf};
 
-use crate::mark::Mark;
-use crate::stamp::Stamp;
-use messages::event::{Event, NodeInput};
-use model::call::CallId;
-use model::op::Op;
-use model::reply::Reply;
+use crate::{Mark, Stamp};
+use messages::{Event, NodeInput};
+use model::{CallId, Op, Reply};
 use std::marker::Model;
 
 /// A call with its process and its reply, and the positions of both in the journal. The call stands after all that
@@ -26,7 +23,7 @@ pub struct Receipt {
 
 impl Model for Receipt {
     ghost use Rattle.std.specs.Prelude.{◌<◌, ◌≤◌};
-    ghost use Rattle.book.specs.rule.Fields.{ReceiptFields};
+    ghost use Rattle.book.specs.rule.States.{ReceiptFields};
 
     ghost Value = { ReceiptFields };
 

@@ -5,22 +5,12 @@ ghost use Rattle.cluster_core.specs.rule.Next.{is_known};
 ghost use Rattle.cluster_core.specs.rule.Parts.{world_state};
 ghost use Rattle.cluster_core.specs.rule.Journals.{GoesOn};
 ghost use Rattle.book.specs.rule.Commits.{Names};
-ghost use Rattle.book.specs.code.Copies.{IsStepFrom};
-ghost use Rattle.book.specs.rule.Fields.{seat_state, IsLevel, IsSameSeat};
-ghost use Rattle.book.specs.rule.States.{actor_of, incarnation_of, StepsTo, HasState, Rejects};
-ghost use Rattle.book.specs.code.Copies.{Fits, Plans};
-ghost use Rattle.book.specs.code.LastSpots.{IsSpotOf};
+ghost use Rattle.book.specs.code.Copies.{IsStepFrom, Fits, Plans, IsSpotOf};
+ghost use Rattle.book.specs.rule.States.{seat_state, IsLevel, IsSameSeat, actor_of, incarnation_of, StepsTo, HasState, Rejects};
 
-use crate::planned_step::PlannedStep;
-use crate::prepared::Prepared;
-use crate::spot::Spot;
-use crate::standing::Standing;
-use crate::state::State;
-use crate::trail_name::Name;
-use cluster_core::run::Run;
-use messages::actor::Actor;
-use messages::event::Event;
-use messages::refusal::StepError;
+use crate::{Name, PlannedStep, Prepared, Spot, Standing, State};
+use cluster_core::Run;
+use messages::{Actor, Event, StepError};
 use std::alloc::{AllocError, Global};
 use std::marker::Model;
 
@@ -39,8 +29,8 @@ pub struct Seat<J: Name> {
 
 impl<J: Name> Model for Seat<J> {
     ghost use Rattle.std.specs.Prelude.{IfSome};
-    ghost use Rattle.book.specs.rule.Fields.{SeatFields, standing_state};
-    ghost use Rattle.book.specs.code.LastSpots.{IsSpotOf};
+    ghost use Rattle.book.specs.rule.States.{SeatFields, standing_state};
+    ghost use Rattle.book.specs.code.Copies.{IsSpotOf};
 
     ghost Value = { SeatFields };
 

@@ -1,8 +1,7 @@
 //! A spot: a place of a trail, with what stands there.
 ghost use Rattle.std.specs.Prelude.{◌≡◌, ◌<◌, ◌↔◌, length, slice_get, true, IsTrue};
 
-use crate::trail_name::Name;
-use crate::trail_rule::Law;
+use crate::{Law, Name};
 use logbook::Seen;
 use std::marker::{Model, PhantomData};
 
@@ -16,7 +15,7 @@ pub struct Spot<J: Name, E> {
 
 impl<J: Name, E> Model for Spot<J, E> {
     ghost use Rattle.std.specs.Prelude.{◌≡◌, ◌<◌, length, slice_get};
-    ghost use Rattle.book.specs.code.Spots.{SpotFields};
+    ghost use Rattle.book.specs.code.Copies.{SpotFields};
 
     ghost Value = { SpotFields E };
 

@@ -2,8 +2,7 @@
 ghost use Rattle.std.specs.Prelude.{◌≡◌, ◌<◌};
 
 use crate::mark::Mark;
-use messages::event::Event;
-use messages::outcome::Outcome;
+use messages::{Event, Outcome};
 use std::marker::Model;
 
 /// The stamp of a commit: the position of its entry, from 1, the entry's event and outcome, and the position up to
@@ -18,7 +17,7 @@ pub struct Stamp {
 
 impl Model for Stamp {
     ghost use Rattle.std.specs.Prelude.{◌<◌};
-    ghost use Rattle.book.specs.rule.Fields.{StampFields};
+    ghost use Rattle.book.specs.rule.States.{StampFields};
 
     ghost Value = { StampFields };
 

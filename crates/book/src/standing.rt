@@ -4,17 +4,12 @@ ghost use Rattle.cluster_core.specs.rule.World.{journal_limit};
 ghost use Rattle.cluster_core.specs.rule.Next.{is_known};
 ghost use Rattle.cluster_core.specs.rule.Parts.{world_state};
 ghost use Rattle.cluster_core.specs.rule.Journals.{GoesOn};
-ghost use Rattle.book.specs.rule.States.{actor_of, incarnation_of, StepsTo, HasState, is_declared};
-ghost use Rattle.book.specs.rule.Fields.{standing_state};
+ghost use Rattle.book.specs.rule.States.{actor_of, incarnation_of, StepsTo, HasState, is_declared, standing_state};
 ghost use Rattle.book.specs.code.Copies.{Fits, Plans};
 
-use crate::planned_step::PlannedStep;
-use crate::state::State;
-use cluster_core::run::Run;
-use cluster_core::world::World;
-use messages::actor::Actor;
-use messages::event::Event;
-use messages::refusal::StepError;
+use crate::{PlannedStep, State};
+use cluster_core::{Run, World};
+use messages::{Actor, Event, StepError};
 use std::alloc::{AllocError, Global};
 use std::marker::Model;
 
@@ -28,9 +23,7 @@ pub(crate) struct Standing {
 
 impl Model for Standing {
     ghost use Rattle.std.specs.Prelude.{IfSome};
-    ghost use Rattle.book.specs.rule.Fields.{StandingFields};
-    ghost use Rattle.book.specs.rule.States.{MayTake};
-    ghost use Rattle.book.specs.rule.States.{state_of};
+    ghost use Rattle.book.specs.rule.States.{StandingFields, MayTake, state_of};
 
     ghost Value = { StandingFields };
 

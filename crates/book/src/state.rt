@@ -12,21 +12,12 @@ ghost use Rattle.cluster_core.specs.rule.World.{journal_limit};
 ghost use Rattle.cluster_core.specs.rule.Next.{is_known};
 ghost use Rattle.cluster_core.specs.rule.Journals.{GoesOn};
 
-use crate::planned_step::PlannedStep;
-use crate::state_edit::StateEdit;
-use cluster_core::run::Run;
-use cluster_core::world::World;
-use messages::actor::Actor;
-use messages::event::Event;
-use messages::outcome::Outcome;
-use messages::refusal::StepError;
-use node_core::change::NodeChange;
-use node_core::event::NodeEvent;
-use node_core::node::Node;
+use crate::{PlannedStep, StateEdit};
+use cluster_core::{Run, World};
+use messages::{Actor, Event, Outcome, StepError};
+use node_core::{Node, NodeChange, NodeEvent};
 use std::alloc::{AllocError, Global};
-use token_server::change::ServerChange;
-use token_server::event::ServerEvent;
-use token_server::server::Server;
+use token_server::{Server, ServerChange, ServerEvent};
 
 /// A copy of the state of one actor: a node by its number, from 1, or the token server of a file by the file's number, from 1.
 #[derive(Drop)]

@@ -2,18 +2,11 @@
 ghost use Rattle.std.specs.Prelude.{◌≡◌, ◌<◌, ◌≤◌, ◌≢◌, ◌↔◌, Err, IsTrue, MatchResult, option_copied};
 ghost use Rattle.cluster_core.specs.rule.Parts.{world_state};
 ghost use Rattle.book.specs.rule.Commits.{Names, Accepts, Refuses, seen_at};
-ghost use Rattle.book.specs.rule.Fields.{seat_state, IsLevel};
-ghost use Rattle.book.specs.code.LastSpots.{AreReached};
-ghost use Rattle.book.specs.rule.States.{HasState};
+ghost use Rattle.book.specs.rule.States.{seat_state, IsLevel, HasState};
+ghost use Rattle.book.specs.code.Copies.{AreReached};
 
-use crate::commit_error::CommitError;
-use crate::last_spots::LastSpots;
-use crate::mark::Mark;
-use crate::prepared::Prepared;
-use crate::seat::Seat;
-use crate::trail_name::Name;
-use cluster_core::run::Run;
-use cluster_core::world::{JOURNAL_LIMIT, World};
+use crate::{CommitError, LastSpots, Mark, Name, Prepared, Seat};
+use cluster_core::{JOURNAL_LIMIT, Run, World};
 
 /// The position of the mark, 0 for none.
 pub(crate) fn seen_of(seen: Option<&Mark>) -> u32

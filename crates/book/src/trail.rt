@@ -2,9 +2,7 @@
 ghost use Rattle.std.specs.Prelude.{◌≡◌, ◌<◌, ◌≤◌, ◌^◌, ◌⊎◌, ◌++◌, ◌∷◌, [], length, Some, IfNone, IfSome};
 ghost use Rattle.book.specs.rule.Trails.{head_of};
 
-use crate::spot::Spot;
-use crate::trail_name::Name;
-use crate::trail_rule::{Add, Law, Nothing};
+use crate::{Add, Law, Name, Nothing, Spot};
 use logbook::{Offer, Seen, Word};
 use std::marker::{Model, PhantomData};
 

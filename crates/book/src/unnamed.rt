@@ -1,9 +1,7 @@
 //! A trail without a name.
 ghost use Rattle.std.specs.Prelude.{◌≡◌, []};
 
-use crate::trail::Trail;
-use crate::trail_name::Name;
-use crate::trail_rule::Law;
+use crate::{Law, Name, Trail};
 use logbook::{Seen, Start, Word};
 use std::marker::Model;
 

@@ -6,13 +6,11 @@ use Rattle.model.specs.rule.Locks.{Locks}
 use Rattle.lock_table.specs.rule.Tables.{held}
 use Rattle.client_history.specs.declared.open_client_call.OpenClientCall.{OpenClientCall}
 use Rattle.client_history.specs.declared.search_front.SearchFront.{SearchFront}
-use Rattle.client_history.specs.rule.Acts.{ActStep}
-use Rattle.client_history.specs.rule.Explained.{the_file, Stands}
+use Rattle.client_history.specs.rule.Explained.{ActStep, the_file, Stands}
 use Rattle.client_history.specs.code.Moves.{AsksOnly}
 use Rattle.client_history.specs.code.OpenCalls.{IsLeft}
-use Rattle.client_history.specs.code.Search.{IsAskedOf}
+use Rattle.client_history.specs.code.Search.{IsAskedOf, IsAsked}
 use Rattle.client_history.specs.code.Taken.{IsAlsoTaken}
-use Rattle.client_history.specs.code.Asked.{IsAsked}
 use Rattle.client_history.proofs.Orders.{last_place}
 use Rattle.client_history.proofs.OwnQuestions.{asks_same}
 

@@ -5,11 +5,9 @@ use Rattle.model.specs.rule.Locks.{Locks, no_locks}
 use Rattle.client_history.specs.declared.act.Act.{Act}
 use Rattle.client_history.specs.declared.client_call.ClientCall.{ClientCall}
 use Rattle.client_history.specs.declared.open_client_call.OpenClientCall.{OpenClientCall}
-use Rattle.client_history.specs.rule.Acts.{ActStep}
-use Rattle.client_history.specs.rule.Explained.{the_file, Leads, Stands, IsExplainedBy}
-use Rattle.client_history.specs.code.Moves.{AsksOnly}
-use Rattle.client_history.specs.code.Prefixes.{NoneEnded, FollowsNone, AreOfOthers}
-use Rattle.client_history.specs.code.FirstCalls.{Changes}
+use Rattle.client_history.specs.rule.Explained.{ActStep, the_file, Leads, Stands, IsExplainedBy}
+use Rattle.client_history.specs.code.Moves.{AsksOnly, NoneEnded, FollowsNone, AreOfOthers}
+use Rattle.client_history.specs.code.OpenCalls.{Changes}
 use Rattle.client_history.specs.code.Search.{AreSound, IsDropped, AreOpenCalls, IsWay}
 use Rattle.client_history.proofs.Exchange.{leads_on, legal_explained}
 use Rattle.client_history.proofs.Orders.{get_one}

@@ -9,15 +9,10 @@ use Rattle.client_history.specs.declared.client_call.ClientCall.{ClientCall}
 use Rattle.client_history.specs.declared.open_client_call.OpenClientCall.{OpenClientCall}
 use Rattle.client_history.specs.declared.search_front.SearchFront.{SearchFront}
 use Rattle.client_history.specs.declared.moment.Moment.{Moment}
-use Rattle.client_history.specs.rule.Acts.{ActStep}
-use Rattle.client_history.specs.code.Asked.{IsAsked}
-use Rattle.client_history.specs.rule.Explained.{the_file, Stands}
-use Rattle.client_history.specs.code.Moments.{AreByTime}
-use Rattle.client_history.specs.code.Moves.{AsksOnly}
+use Rattle.client_history.specs.rule.Explained.{ActStep, the_file, Stands}
+use Rattle.client_history.specs.code.Search.{IsAsked, IsPast, AreTimed, IsReached, GoesTo, AreSound, IsExitOf, AreOpenCalls, IsOn, IsCovered, AreAskedFor}
+use Rattle.client_history.specs.code.Moves.{AreByTime, AsksOnly}
 use Rattle.client_history.specs.code.OpenCalls.{IsIn, IsLeft, AreAsked}
-use Rattle.client_history.specs.code.Reached.{IsPast, AreTimed, IsReached, GoesTo}
-use Rattle.client_history.specs.code.Search.{AreSound, IsExitOf, AreOpenCalls, IsOn, IsCovered}
-use Rattle.client_history.specs.code.Steps.{AreAskedFor}
 use Rattle.client_history.proofs.AskLaws.{left_before}
 use Rattle.client_history.proofs.AskedWays.{MayBeAsked, way_asked}
 use Rattle.client_history.proofs.Orders.{last_place, get_one}

@@ -8,9 +8,9 @@ use Rattle.model.specs.declared.owner.Owner.{Owner}
 use Rattle.model.specs.declared.lock_info.LockInfo.{LockInfo}
 use Rattle.model.specs.rule.Locks.{FileLocks, Locks, IsFree, IsInWay, IsLowestBlocker, IsRegion}
 use Rattle.model.proofs.BlockerLaws.{blocks_bars}
-use Rattle.lock_table.specs.rule.Listing.{IsListing}
+use Rattle.lock_table.specs.rule.Tables.{IsListing}
 use Rattle.client_history.specs.declared.told_lock.ToldLock.{ToldLock}
-use Rattle.client_history.specs.rule.Acts.{IsTold, IsBlocked}
+use Rattle.client_history.specs.rule.Explained.{IsTold, IsBlocked}
 use Rattle.client_history.proofs.Orders.{last_place, get_one}
 
 -- where a lock blocks, the span is not free

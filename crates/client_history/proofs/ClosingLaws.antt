@@ -3,7 +3,7 @@ use Rattle.std.proofs.Common.{◌≡◌, ℕ, ◌+◌, ◌<◌, ◌≤◌, ⊎_e
 use Rattle.std.proofs.lemmas.Option.{none-some, slice_get_within}
 use Rattle.client_history.specs.declared.open_client_call.OpenClientCall.{OpenClientCall}
 use Rattle.client_history.specs.rule.Explained.{Stands}
-use Rattle.client_history.specs.code.Closings.{IsOverWith, AreOver, AreWithout}
+use Rattle.client_history.specs.code.Search.{IsOverWith, AreOver, AreWithout}
 use Rattle.client_history.proofs.Orders.{last_place, get_one}
 use Rattle.client_history.proofs.Standing.{has_left, has_last, has_push}
 

@@ -10,9 +10,8 @@ use Rattle.client_history.specs.declared.told_lock.ToldLock.{ToldLock}
 use Rattle.client_history.specs.declared.act.Act.{Act}
 use Rattle.client_history.specs.declared.act.Act.TheVariants.{Locks as Takes, IsDenied, IsFree as FindsFree, Frees, Drops}
 use Rattle.client_history.specs.declared.client_call.ClientCall.{ClientCall}
-use Rattle.client_history.specs.rule.Acts.{IsBlocked}
-use Rattle.client_history.specs.rule.Explained.{the_file, Leads, IsAt}
-use Rattle.client_history.specs.code.FirstCalls.{Changes, IsUntold, MayDeny}
+use Rattle.client_history.specs.rule.Explained.{IsBlocked, the_file, Leads, IsAt}
+use Rattle.client_history.specs.code.OpenCalls.{Changes, IsUntold, MayDeny}
 use Rattle.client_history.proofs.MoveLaws.{in_both}
 use Rattle.client_history.proofs.OwnQuestions.{blocked_still}
 use Rattle.client_history.proofs.Passed.{common_byte}

@@ -10,14 +10,10 @@ use Rattle.client_history.specs.declared.client_call.ClientCall.{ClientCall}
 use Rattle.client_history.specs.declared.open_client_call.OpenClientCall.{OpenClientCall}
 use Rattle.client_history.specs.declared.search_front.SearchFront.{SearchFront}
 use Rattle.client_history.specs.declared.moment.Moment.{Moment}
-use Rattle.client_history.specs.code.Closings.{AreOver, AreWithout, HasForgotten, AreForgotten}
-use Rattle.client_history.specs.rule.Explained.{EndedBy, Stands, IsExplainedBy}
-use Rattle.client_history.specs.code.Moments.{AreByTime, IsBehindAnother, IsBeginOf}
+use Rattle.client_history.specs.code.Search.{AreOver, AreWithout, HasForgotten, AreForgotten, IsPast, AreTimed, IsReached, GoesTo, GoesPast, AreOpenCalls, IsWay, IsCovered, IsEnding, AreSettled}
+use Rattle.client_history.specs.rule.Explained.{EndedBy, Stands, IsExplainedBy, IsUnexplainedFrom}
+use Rattle.client_history.specs.code.Moves.{AreByTime, IsBehindAnother, IsBeginOf}
 use Rattle.client_history.specs.code.OpenCalls.{IsIn, AreAsked}
-use Rattle.client_history.specs.code.Reached.{IsPast, AreTimed, IsReached, GoesTo, GoesPast}
-use Rattle.client_history.specs.code.Search.{AreOpenCalls, IsWay, IsCovered}
-use Rattle.client_history.specs.code.Steps.{IsEnding, AreSettled}
-use Rattle.client_history.specs.rule.Verdicts.{IsUnexplainedFrom}
 use Rattle.client_history.proofs.Closings.{AreGone, AreTakenStill, AreOpenStill, gone_by_exits, open_closed, way_closed, asked_closed}
 use Rattle.client_history.proofs.Orders.{last_place, get_one}
 use Rattle.client_history.proofs.Places.{call_of, stands_first, stands_more, stands_cases}

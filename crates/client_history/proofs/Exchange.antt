@@ -5,7 +5,7 @@ use Rattle.std.proofs.lemmas.Option.{none-some}
 use Rattle.model.specs.rule.Locks.{Locks, no_locks}
 use Rattle.client_history.specs.declared.client_call.ClientCall.{ClientCall}
 use Rattle.client_history.specs.rule.Explained.{Leads, IsOnce, Stands, IsAt, EndsBefore, AreInTime, ExitsAreLast, AreBehindTheirFirst, IsExplainedBy}
-use Rattle.client_history.specs.code.Prefixes.{Passes, NoneEnded, FollowsNone, AreOfOthers}
+use Rattle.client_history.specs.code.Moves.{Passes, NoneEnded, FollowsNone, AreOfOthers}
 use Rattle.client_history.proofs.Fronts.{moves_first}
 use Rattle.client_history.proofs.Orders.{get_one}
 use Rattle.client_history.proofs.Steps.{leads_is_one, leads_split, leads_join}

@@ -4,11 +4,9 @@ use Rattle.std.proofs.Common.{◌≡◌, ℕ, zero, suc, ◌+◌, ⊎_elim, true
 use Rattle.std.proofs.lemmas.Option.{same_Some}
 use Rattle.model.specs.rule.Locks.{Locks, no_locks}
 use Rattle.client_history.specs.declared.client_call.ClientCall.{ClientCall}
-use Rattle.client_history.specs.rule.Acts.{ActStep}
-use Rattle.client_history.specs.rule.Explained.{the_file, Leads, IsOnce, Stands, IsAt, IsExplainedBy}
-use Rattle.client_history.specs.code.FirstCalls.{Calls, IsServed, AreOpen, ComesFirst, ClosedSetsComeFirst}
-use Rattle.client_history.specs.code.Moves.{AsksOnly}
-use Rattle.client_history.specs.code.Prefixes.{AreOfOthers}
+use Rattle.client_history.specs.rule.Explained.{ActStep, the_file, Leads, IsOnce, Stands, IsAt, IsExplainedBy}
+use Rattle.client_history.specs.code.OpenCalls.{Calls, IsServed, AreOpen, ComesFirst, ClosedSetsComeFirst}
+use Rattle.client_history.specs.code.Moves.{AsksOnly, AreOfOthers}
 use Rattle.client_history.proofs.Exchange.{get_split, get_left, get_right, leads_on, first_in_front, moved_explained}
 use Rattle.client_history.proofs.Firsts.{first_of}
 use Rattle.client_history.proofs.MetCalls.{met_step, met_passes, none_ended, follows_none, of_others}

@@ -4,11 +4,9 @@ use Rattle.std.proofs.lemmas.Option.{none-some, slice_get_within}
 use Rattle.model.specs.rule.Locks.{Locks, no_locks}
 use Rattle.client_history.specs.declared.client_call.ClientCall.{ClientCall}
 use Rattle.client_history.specs.declared.open_client_call.OpenClientCall.{OpenClientCall}
-use Rattle.client_history.specs.rule.Acts.{ActStep}
-use Rattle.client_history.specs.rule.Explained.{the_file, EndedBy, Stands, IsAt, IsExplainedBy}
+use Rattle.client_history.specs.rule.Explained.{ActStep, the_file, EndedBy, Stands, IsAt, IsExplainedBy}
 use Rattle.client_history.specs.code.Moves.{AsksOnly}
-use Rattle.client_history.specs.code.FirstCalls.{Calls, Changes, AreOpen, ComesFirst, ClosedSetsComeFirst}
-use Rattle.client_history.specs.code.OpenCalls.{IsLeft, IsIn, IsLeftOf, AreAsked, AreOthersTaken, IsFirstTaken, AreFirst}
+use Rattle.client_history.specs.code.OpenCalls.{Calls, Changes, AreOpen, ComesFirst, ClosedSetsComeFirst, IsLeft, IsIn, IsLeftOf, AreAsked, AreOthersTaken, IsFirstTaken, AreFirst}
 use Rattle.client_history.specs.code.Search.{AreSound, IsExitOf, AreOpenCalls, IsWay}
 use Rattle.client_history.proofs.Exchange.{get_left, get_right}
 use Rattle.client_history.proofs.Orders.{get_one}

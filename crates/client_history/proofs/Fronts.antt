@@ -5,10 +5,8 @@ use Rattle.std.proofs.lemmas.List.{take-append-drop}
 use Rattle.std.proofs.lemmas.Option.{none-some, same_Some}
 use Rattle.model.specs.rule.Locks.{Locks, no_locks}
 use Rattle.client_history.specs.declared.client_call.ClientCall.{ClientCall}
-use Rattle.client_history.specs.rule.Acts.{ActStep}
-use Rattle.client_history.specs.rule.Explained.{the_file, Leads, IsAt, EndedBy, HaveBegun, AreAnswered, ExitsAreWhole, AreBehindTheirFirst, IsExplainedBy}
-use Rattle.client_history.specs.code.Prefixes.{AreOrdered, Passes}
-use Rattle.client_history.specs.rule.Verdicts.{AreExplainedBefore}
+use Rattle.client_history.specs.rule.Explained.{ActStep, the_file, Leads, IsAt, EndedBy, HaveBegun, AreAnswered, ExitsAreWhole, AreBehindTheirFirst, IsExplainedBy, AreExplainedBefore}
+use Rattle.client_history.specs.code.Moves.{AreOrdered, Passes}
 use Rattle.client_history.proofs.OwnQuestions.{may_move}
 use Rattle.client_history.proofs.Orders.{get_one, is_at_one, at_within}
 use Rattle.client_history.proofs.Steps.{leads_split}

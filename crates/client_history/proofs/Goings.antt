@@ -6,12 +6,9 @@ use Rattle.lock_table.specs.rule.Tables.{held}
 use Rattle.client_history.specs.declared.client_call.ClientCall.{ClientCall}
 use Rattle.client_history.specs.declared.open_client_call.OpenClientCall.{OpenClientCall}
 use Rattle.client_history.specs.declared.search_front.SearchFront.{SearchFront}
-use Rattle.client_history.specs.rule.Acts.{ActStep}
-use Rattle.client_history.specs.rule.Explained.{the_file, Stands, IsAt}
-use Rattle.client_history.specs.code.FirstCalls.{ComesFirst}
-use Rattle.client_history.specs.code.OpenCalls.{IsIn, IsLeftOf, AreAsked, AreFirst}
-use Rattle.client_history.specs.code.Search.{IsWay, IsOn, IsCovered, IsAskedOf}
-use Rattle.client_history.specs.code.Steps.{HasOnly, HasEqual, HasNext, IsGone, GoesOnFrom, AreTaken}
+use Rattle.client_history.specs.rule.Explained.{ActStep, the_file, Stands, IsAt}
+use Rattle.client_history.specs.code.OpenCalls.{ComesFirst, IsIn, IsLeftOf, AreAsked, AreFirst}
+use Rattle.client_history.specs.code.Search.{IsWay, IsOn, IsCovered, IsAskedOf, HasOnly, HasEqual, HasNext, IsGone, GoesOnFrom, AreTaken}
 use Rattle.client_history.specs.code.Taken.{IsAlsoTaken}
 use Rattle.client_history.proofs.FirstCalls.{closed_sets_first}
 use Rattle.client_history.proofs.FirstOfWay.{first_of_way}

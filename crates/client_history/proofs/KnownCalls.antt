@@ -6,8 +6,8 @@ use Rattle.model.specs.declared.owner.Owner.{Owner}
 use Rattle.model.specs.contracts.owner.OwnerPartialEq.TheImpl as derived
 use Rattle.client_history.specs.declared.client_call.ClientCall.{ClientCall}
 use Rattle.client_history.specs.declared.owner_calls.OwnerFacts.{OwnerFacts}
-use Rattle.client_history.specs.code.Moments.{IsBeginOf}
-use Rattle.client_history.specs.code.OwnerCalls.{IsExitOfOwner, HasAnswerFrom, IsKnownOf}
+use Rattle.client_history.specs.code.Moves.{IsBeginOf}
+use Rattle.client_history.specs.code.OpenCalls.{IsExitOfOwner, HasAnswerFrom, IsKnownOf}
 use Rattle.client_history.proofs.Owners.{eq_exact}
 
 -- before any call nothing is known, which is true

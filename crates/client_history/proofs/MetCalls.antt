@@ -8,11 +8,9 @@ use Rattle.model.specs.rule.Locks.{Locks, with_lock, without_owner}
 use Rattle.client_history.specs.declared.act.Act.{Act}
 use Rattle.client_history.specs.declared.act.Act.TheVariants.{Locks as Takes, IsDenied, IsFree as FindsFree, Frees, Drops}
 use Rattle.client_history.specs.declared.client_call.ClientCall.{ClientCall}
-use Rattle.client_history.specs.rule.Acts.{ActStep}
-use Rattle.client_history.specs.rule.Explained.{the_file, Leads, IsOnce, IsAt}
-use Rattle.client_history.specs.code.FirstCalls.{Calls, Changes, MeetsOther, MayComeBefore, IsUnbarred, IsMet, AreOpen}
-use Rattle.client_history.specs.code.Moves.{AsksOnly, Releases, IsDeniedIn}
-use Rattle.client_history.specs.code.Prefixes.{Passes, NoneEnded, FollowsNone, AreOfOthers, OwnAskOnly, NoneDenied}
+use Rattle.client_history.specs.rule.Explained.{ActStep, the_file, Leads, IsOnce, IsAt}
+use Rattle.client_history.specs.code.OpenCalls.{Calls, Changes, MeetsOther, MayComeBefore, IsUnbarred, IsMet, AreOpen}
+use Rattle.client_history.specs.code.Moves.{AsksOnly, Releases, IsDeniedIn, Passes, NoneEnded, FollowsNone, AreOfOthers, OwnAskOnly, NoneDenied}
 use Rattle.client_history.proofs.Denials.{some_denies}
 use Rattle.client_history.proofs.Passed.{ArePassed}
 use Rattle.client_history.proofs.Places.{call_of}

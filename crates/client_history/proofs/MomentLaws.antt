@@ -12,7 +12,7 @@ use Rattle.std.proofs.lemmas.Map.Keys.{IsDistinct-from_apart, IsDistinct-push, I
 use Rattle.std.proofs.lemmas.Option.{slice_get-get_or, slice_get-map, get_or_from_slice_get, slice_get_within}
 use Rattle.client_history.specs.declared.client_call.ClientCall.{ClientCall}
 use Rattle.client_history.specs.declared.moment.Moment.{Moment}
-use Rattle.client_history.specs.code.Moments.{AreByTime}
+use Rattle.client_history.specs.code.Moves.{AreByTime}
 use Rattle.client_history.proofs.Orders.{get_one, last_place}
 
 abbrev calls_of : List Moment → List ℕ

@@ -10,9 +10,8 @@ use Rattle.model.specs.rule.Locks.{Locks, bars, excludes, with_lock}
 use Rattle.client_history.specs.declared.act.Act.{Act}
 use Rattle.client_history.specs.declared.act.Act.TheVariants.{Locks as Takes, IsDenied, IsFree as FindsFree, Frees, Drops}
 use Rattle.client_history.specs.declared.client_call.ClientCall.{ClientCall}
-use Rattle.client_history.specs.rule.Acts.{ActStep}
-use Rattle.client_history.specs.rule.Explained.{the_file, Leads, IsAt}
-use Rattle.client_history.specs.code.FirstCalls.{Changes, LetsGo}
+use Rattle.client_history.specs.rule.Explained.{ActStep, the_file, Leads, IsAt}
+use Rattle.client_history.specs.code.OpenCalls.{Changes, LetsGo}
 use Rattle.client_history.specs.code.Moves.{AsksOnly}
 use Rattle.client_history.proofs.MoveLaws.{choice_true, choice_false, own_is, in_both}
 use Rattle.client_history.proofs.OwnQuestions.{one_or_two, leaves_other, leaves_same}

@@ -11,8 +11,7 @@ use Rattle.model.proofs.OwnerLaws.{owner_exact, owner_refl}
 use Rattle.client_history.specs.declared.told_lock.ToldLock.{ToldLock}
 use Rattle.client_history.specs.declared.act.Act.{Act}
 use Rattle.client_history.specs.declared.act.Act.TheVariants.{Locks as Takes, IsDenied, IsFree as FindsFree, Frees, Drops}
-use Rattle.client_history.specs.rule.Acts.{ActStep, IsBlocked}
-use Rattle.client_history.specs.rule.Explained.{the_file}
+use Rattle.client_history.specs.rule.Explained.{ActStep, IsBlocked, the_file}
 use Rattle.client_history.specs.code.Moves.{AsksOnly, MayPass, MovesBefore}
 use Rattle.client_history.proofs.MoveLaws.{other_is, moves_before}
 use Rattle.client_history.proofs.Steps.{step_is_one}

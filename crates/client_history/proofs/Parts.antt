@@ -4,7 +4,7 @@ use Rattle.std.proofs.lemmas.Option.{none-some, same_Some, slice_get_within}
 use Rattle.model.specs.rule.Locks.{Locks, no_locks}
 use Rattle.client_history.specs.declared.client_call.ClientCall.{ClientCall}
 use Rattle.client_history.specs.rule.Explained.{AreWithin, Leads, AreAnswered, IsExplainedBy}
-use Rattle.client_history.specs.code.Marks.{AreMarks, AreMarked}
+use Rattle.client_history.specs.code.Moves.{AreMarks, AreMarked}
 
 -- each index of an order that leads somewhere is that of a call
 within_legal : (calls : List ClientCall) (h m : Locks) (order : List ℕ) → Leads calls h order m → AreWithin (length calls) order

@@ -8,9 +8,8 @@ use Rattle.model.specs.rule.Locks.{Locks, IsFree, bars}
 use Rattle.client_history.specs.declared.act.Act.{Act}
 use Rattle.client_history.specs.declared.act.Act.TheVariants.{Locks as Takes, IsDenied, IsFree as FindsFree, Frees, Drops}
 use Rattle.client_history.specs.declared.client_call.ClientCall.{ClientCall}
-use Rattle.client_history.specs.rule.Acts.{ActStep}
-use Rattle.client_history.specs.rule.Explained.{the_file, Leads, IsAt}
-use Rattle.client_history.specs.code.FirstCalls.{Calls, NeedsFree, IsKept}
+use Rattle.client_history.specs.rule.Explained.{ActStep, the_file, Leads, IsAt}
+use Rattle.client_history.specs.code.OpenCalls.{Calls, NeedsFree, IsKept}
 use Rattle.client_history.specs.code.Moves.{AsksOnly}
 use Rattle.client_history.proofs.OwnBytes.{some_lets_go}
 

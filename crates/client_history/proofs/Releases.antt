@@ -8,10 +8,8 @@ use Rattle.client_history.specs.declared.told_lock.ToldLock.{ToldLock}
 use Rattle.client_history.specs.declared.act.Act.{Act}
 use Rattle.client_history.specs.declared.act.Act.TheVariants.{Locks as Takes, IsDenied, IsFree as FindsFree, Frees, Drops}
 use Rattle.client_history.specs.declared.client_call.ClientCall.{ClientCall}
-use Rattle.client_history.specs.rule.Acts.{ActStep, IsBlocked}
-use Rattle.client_history.specs.rule.Explained.{the_file, Leads, IsAt, IsExplainedBy}
-use Rattle.client_history.specs.code.Moves.{Releases, IsDeniedIn, IsDeniedByOther, LetsBefore}
-use Rattle.client_history.specs.code.Prefixes.{Passes, NoneEnded, FollowsNone, AreOfOthers, OwnAskOnly, NoneDenied}
+use Rattle.client_history.specs.rule.Explained.{ActStep, IsBlocked, the_file, Leads, IsAt, IsExplainedBy}
+use Rattle.client_history.specs.code.Moves.{Releases, IsDeniedIn, IsDeniedByOther, LetsBefore, Passes, NoneEnded, FollowsNone, AreOfOthers, OwnAskOnly, NoneDenied}
 use Rattle.client_history.proofs.Exchange.{moved_explained}
 use Rattle.client_history.proofs.OwnQuestions.{leaves_same, blocked_still}
 

@@ -10,11 +10,8 @@ use Rattle.client_history.specs.declared.act.Act.{Act}
 use Rattle.client_history.specs.declared.act.Act.TheVariants.{Locks as Takes, IsDenied, IsFree as FindsFree, Frees, Drops}
 use Rattle.client_history.specs.declared.client_call.ClientCall.{ClientCall}
 use Rattle.client_history.specs.declared.open_client_call.OpenClientCall.{OpenClientCall}
-use Rattle.client_history.specs.rule.Acts.{ActStep}
-use Rattle.client_history.specs.code.ClosedSets.{AreOf, AreOnce, IsGrown, FindsNoLock, IsHeldUp, IsNotDenied, IsNeeded}
-use Rattle.client_history.specs.rule.Explained.{the_file}
-use Rattle.client_history.specs.code.FirstCalls.{Changes, Calls, HasRival, LetsGo, MayComeBefore, IsUnbarred, IsServed, IsClosed}
-use Rattle.client_history.specs.code.OpenCalls.{IsLeft, IsIn, IsLeftOf, AreOthersTaken, IsFirstTaken}
+use Rattle.client_history.specs.rule.Explained.{ActStep, the_file}
+use Rattle.client_history.specs.code.OpenCalls.{AreOf, AreOnce, IsGrown, FindsNoLock, IsHeldUp, IsNotDenied, IsNeeded, Changes, Calls, HasRival, LetsGo, MayComeBefore, IsUnbarred, IsServed, IsClosed, IsLeft, IsIn, IsLeftOf, AreOthersTaken, IsFirstTaken}
 use Rattle.client_history.proofs.Exchange.{get_left}
 use Rattle.client_history.proofs.Orders.{last_place, get_one}
 use Rattle.client_history.proofs.Standing.{has_last}

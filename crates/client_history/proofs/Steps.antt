@@ -7,8 +7,7 @@ use Rattle.model.specs.rule.Locks.{Locks}
 use Rattle.client_history.specs.declared.act.Act.{Act}
 use Rattle.client_history.specs.declared.act.Act.TheVariants.{Locks as Takes, IsDenied, IsFree as FindsFree, Frees, Drops}
 use Rattle.client_history.specs.declared.client_call.ClientCall.{ClientCall}
-use Rattle.client_history.specs.rule.Acts.{ActStep}
-use Rattle.client_history.specs.rule.Explained.{the_file, Leads, IsAt}
+use Rattle.client_history.specs.rule.Explained.{ActStep, the_file, Leads, IsAt}
 use Rattle.client_history.proofs.Orders.{get_one}
 
 -- an act leads from one table to at most one

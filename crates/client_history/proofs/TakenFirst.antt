@@ -11,11 +11,9 @@ use Rattle.model.specs.rule.Locks.{Locks, IsFree, bars, excludes, with_lock}
 use Rattle.client_history.specs.declared.act.Act.{Act}
 use Rattle.client_history.specs.declared.act.Act.TheVariants.{Locks as Takes, IsDenied, IsFree as FindsFree, Frees, Drops}
 use Rattle.client_history.specs.declared.client_call.ClientCall.{ClientCall}
-use Rattle.client_history.specs.rule.Acts.{ActStep}
-use Rattle.client_history.specs.rule.Explained.{the_file, Leads, IsOnce, IsAt}
-use Rattle.client_history.specs.code.FirstCalls.{Calls, HasRival, IsBarred}
-use Rattle.client_history.specs.code.Moves.{AsksOnly, IsDeniedIn, LetsBefore, MayPass}
-use Rattle.client_history.specs.code.Prefixes.{Passes, OwnAskOnly, NoneDenied}
+use Rattle.client_history.specs.rule.Explained.{ActStep, the_file, Leads, IsOnce, IsAt}
+use Rattle.client_history.specs.code.OpenCalls.{Calls, HasRival, IsBarred}
+use Rattle.client_history.specs.code.Moves.{AsksOnly, IsDeniedIn, LetsBefore, MayPass, Passes, OwnAskOnly, NoneDenied}
 use Rattle.client_history.proofs.Exchange.{get_left, get_right}
 use Rattle.client_history.proofs.MoveLaws.{in_both}
 use Rattle.client_history.proofs.Orders.{get_one}

@@ -7,7 +7,7 @@ use Rattle.client_history.specs.declared.act.Act.TheVariants.{Locks as Takes, Is
 use Rattle.client_history.specs.declared.client_call.ClientCall.{ClientCall}
 use Rattle.client_history.specs.rule.Explained.{Stands, IsExplainedBy}
 use Rattle.client_history.specs.code.Moves.{AsksOnly}
-use Rattle.client_history.specs.code.FirstCalls.{Calls, Changes, ComesFirst}
+use Rattle.client_history.specs.code.OpenCalls.{Calls, Changes, ComesFirst}
 use Rattle.client_history.specs.code.Search.{AreSound, IsWay}
 use Rattle.client_history.proofs.Exchange.{get_left, get_right}
 use Rattle.client_history.proofs.Places.{stands_left, stands_right, stands_split, stands_apart, stands_first, stands_alone}

@@ -1,14 +1,4 @@
-pub mod Asked
-pub mod ClosedSets
-pub mod Closings
-pub mod FirstCalls
-pub mod Marks
-pub mod Moments
 pub mod Moves
 pub mod OpenCalls
-pub mod OwnerCalls
-pub mod Prefixes
-pub mod Reached
 pub mod Search
-pub mod Steps
 pub mod Taken

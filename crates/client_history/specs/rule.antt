@@ -1,3 +1,1 @@
-pub mod Acts
 pub mod Explained
-pub mod Verdicts

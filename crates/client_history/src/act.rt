@@ -1,7 +1,7 @@
 //! The act of a call: what it did to the locks of its file.
 use crate::told_lock::ToldLock;
 use intervals::span::Span;
-use model::mode::Mode;
+use model::Mode;
 
 /// The act of a call on the locks of its file, as its client saw it.
 #[derive(Clone, Copy, Debug, PartialEq, Eq)]

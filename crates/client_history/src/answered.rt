@@ -1,7 +1,7 @@
 //! The test whether the calls with a reply stand in an order.
 ghost use Rattle.std.specs.Prelude.{◌≡◌, IsTrue, ◌↔◌, length};
 ghost use Rattle.client_history.specs.rule.Explained.{EndedBy};
-ghost use Rattle.client_history.specs.code.Marks.{AreMarked};
+ghost use Rattle.client_history.specs.code.Moves.{AreMarked};
 
 use crate::client_call::ClientCall;
 

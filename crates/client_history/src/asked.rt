@@ -1,12 +1,9 @@
 //! The calls that only ask, taken at a front: they leave the locks. A function here that gives a `Result` answers
 //! `AllocError` where a request for memory was refused.
 ghost use Rattle.std.specs.Prelude.{IfOk};
-ghost use Rattle.client_history.specs.code.Asked.{IsAsked};
-ghost use Rattle.client_history.specs.code.Search.{IsAskedOf};
+ghost use Rattle.client_history.specs.code.Search.{IsAsked, IsAskedOf};
 
-use crate::open_client_call::OpenClientCall;
-use crate::paths::Paths;
-use crate::search_front::SearchFront;
+use crate::{OpenClientCall, Paths, SearchFront};
 use std::alloc::AllocError;
 
 impl SearchFront {

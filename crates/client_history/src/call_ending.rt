@@ -1,13 +1,10 @@
 //! The step of the search at the end of a call. A function here that gives a `Result` answers `AllocError` where a
 //! request for memory was refused.
 ghost use Rattle.std.specs.Prelude.{◌≡◌, ◌<◌, ◌⊎◌, IfOk, length};
-ghost use Rattle.client_history.specs.code.Steps.{HasAll, HasNext, GoesOn, GoesOnFrom, AreSettled, AreTaken};
+ghost use Rattle.client_history.specs.code.Search.{HasAll, HasNext, GoesOn, GoesOnFrom, AreSettled, AreTaken};
 
 use crate::first_calls::first_calls;
-use crate::front_list::add_front;
-use crate::open_client_call::OpenClientCall;
-use crate::paths::Paths;
-use crate::search_front::SearchFront;
+use crate::{OpenClientCall, Paths, SearchFront, add_front};
 use std::alloc::{AllocError, Global};
 
 /// The end of a call: the calls that are open then, and the one that ends.

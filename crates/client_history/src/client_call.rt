@@ -1,6 +1,6 @@
 //! A call of a client, as the client saw it.
 use crate::act::Act;
-use model::owner::Owner;
+use model::Owner;
 
 /// A call of a client about a file: when it began and, where it has a reply, when it ended, by one clock. A call
 /// without a reply may have happened at any time since it began, or never. The last call of an owner is its exit: no

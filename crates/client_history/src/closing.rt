@@ -1,10 +1,9 @@
 //! The calls that are over when a call ends. A function here that gives a `Result` answers `AllocError` where a
 //! request for memory was refused.
 ghost use Rattle.std.specs.Prelude.{◌≡◌, IfOk, IsTrue, length, ◌↔◌};
-ghost use Rattle.client_history.specs.code.Closings.{IsOverWith, AreOver, AreWithout, AreForgotten};
+ghost use Rattle.client_history.specs.code.Search.{IsOverWith, AreOver, AreWithout, AreForgotten};
 
-use crate::open_client_call::OpenClientCall;
-use crate::search_front::SearchFront;
+use crate::{OpenClientCall, SearchFront};
 use std::alloc::{AllocError, Global};
 
 // Whether the open call is over when the call `end` ends: it is that call, or it has no reply and that call is its

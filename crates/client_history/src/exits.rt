@@ -2,7 +2,7 @@
 //! has a reply. A function here that gives a `Result` answers `AllocError` where a request for memory was refused.
 ghost use Rattle.std.specs.Prelude.{◌≡◌, IfOk, IsTrue, ◌↔◌, length};
 ghost use Rattle.client_history.specs.rule.Explained.{AreWithin, ExitsAreLast, ExitsAreWhole};
-ghost use Rattle.client_history.specs.code.Marks.{AreMarks};
+ghost use Rattle.client_history.specs.code.Moves.{AreMarks};
 
 use crate::client_call::ClientCall;
 use indexmap::IndexSet;

@@ -3,13 +3,10 @@
 ghost use Rattle.std.specs.Prelude.{IfOk, IsTrue, ◌↔◌};
 ghost use Rattle.client_history.specs.rule.Explained.{IsExplainedBy, always};
 
-use crate::answered::are_answered;
-use crate::client_call::ClientCall;
-use crate::exits::{exits_are_last, exits_are_whole};
-use crate::halves::are_behind_their_first;
-use crate::in_time::{are_in_time, have_begun};
-use crate::legal::is_legal;
-use crate::marks::marks_of;
+use crate::{
+    ClientCall, are_answered, are_behind_their_first, are_in_time, exits_are_last, exits_are_whole,
+    have_begun, is_legal, marks_of,
+};
 use std::alloc::{AllocError, Global};
 
 /// Whether the calls in this order, each named by its index, explain what the clients of a file saw. One table of

@@ -4,16 +4,11 @@ ghost use Rattle.std.specs.Prelude.{◌≡◌, ℕ, true, List, slice_get, Some,
 ghost use Rattle.model.specs.rule.Locks.{Locks};
 ghost use Rattle.lock_table.specs.rule.Tables.{held};
 ghost use Rattle.client_history.specs.declared.open_client_call.OpenClientCall.{OpenClientCall as SomeCall};
-ghost use Rattle.client_history.specs.rule.Acts.{ActStep};
-ghost use Rattle.client_history.specs.code.ClosedSets.{IsGrown, IsClosedSet};
-ghost use Rattle.client_history.specs.rule.Explained.{the_file};
-ghost use Rattle.client_history.specs.code.FirstCalls.{Changes, IsServed};
-ghost use Rattle.client_history.specs.code.OpenCalls.{IsLeft, IsIn, IsLeftOf, AreAsked, AreOthersTaken, IsFirstTaken, AreFirst};
+ghost use Rattle.client_history.specs.rule.Explained.{ActStep, the_file};
+ghost use Rattle.client_history.specs.code.OpenCalls.{IsGrown, IsClosedSet, Changes, IsServed, IsLeft, IsIn, IsLeftOf, AreAsked, AreOthersTaken, IsFirstTaken, AreFirst};
 
-use crate::act::Act;
-use crate::follow::is_free;
 use crate::needs::{is_denied, least_kept, needs};
-use crate::open_client_call::OpenClientCall;
+use crate::{Act, OpenClientCall, is_free};
 use lock_table::lock_table::LockTable;
 use std::alloc::{AllocError, Global};
 

@@ -4,17 +4,13 @@ ghost use Rattle.std.specs.Prelude.{◌≡◌, ◌≢◌, true, false, IfOk, IsT
 ghost use Rattle.model.specs.rule.Locks.{Locks, IsFree, IsInWay};
 ghost use Rattle.lock_table.specs.rule.Tables.{held};
 ghost use Rattle.lock_table.specs.declared.error.LockError.TheVariants.{NoMemory};
-ghost use Rattle.client_history.specs.rule.Acts.{ActStep, IsBlocked, IsTold};
-ghost use Rattle.client_history.specs.rule.Explained.{the_file};
+ghost use Rattle.client_history.specs.rule.Explained.{ActStep, IsBlocked, IsTold, the_file};
 
-use crate::act::Act;
-use crate::told_lock::ToldLock;
+use crate::{Act, ToldLock};
 use intervals::span::Span;
 use lock_table::error::LockError;
 use lock_table::lock_table::LockTable;
-use model::lock_info::LockInfo;
-use model::mode::Mode;
-use model::owner::Owner;
+use model::{LockInfo, Mode, Owner};
 use std::alloc::AllocError;
 
 /// The file whose locks are judged. Each file has its own history.

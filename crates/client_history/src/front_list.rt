@@ -1,11 +1,9 @@
 //! The fronts that the search has reached by different ways. A function here that gives a `Result` answers
 //! `AllocError` where a request for memory was refused.
 ghost use Rattle.std.specs.Prelude.{◌≡◌, IfOk, IsTrue, length};
-ghost use Rattle.client_history.specs.code.Steps.{HasAll, HasOnly, HasEqual, AreAskedFor};
+ghost use Rattle.client_history.specs.code.Search.{HasAll, HasOnly, HasEqual, AreAskedFor};
 
-use crate::open_client_call::OpenClientCall;
-use crate::paths::Paths;
-use crate::search_front::SearchFront;
+use crate::{OpenClientCall, Paths, SearchFront};
 use std::alloc::AllocError;
 
 // Whether one of the fronts took the same calls and has the same locks.

@@ -1,16 +1,12 @@
 //! The judgement of a history: whether one table explains it. A function here that gives a `Result` answers
 //! `AllocError` where a request for memory was refused.
 ghost use Rattle.std.specs.Prelude.{IfOk, IsTrue};
-ghost use Rattle.client_history.specs.code.Prefixes.{AreOrdered};
+ghost use Rattle.client_history.specs.code.Moves.{AreOrdered};
 ghost use Rattle.client_history.specs.code.Search.{AreSound};
-ghost use Rattle.client_history.specs.rule.Verdicts.{AreExplainedBefore, IsUnexplainedFrom, IsVerdict};
+ghost use Rattle.client_history.specs.rule.Explained.{AreExplainedBefore, IsUnexplainedFrom, IsVerdict};
 
-use crate::answered::ended_by;
-use crate::client_call::ClientCall;
 use crate::explains::{explains, explains_by};
-use crate::search::look_for_order;
-use crate::sound::are_sound;
-use crate::verdict::Verdict;
+use crate::{ClientCall, Verdict, are_sound, ended_by, look_for_order};
 use std::alloc::{AllocError, Global};
 
 /// Judges whether one table of record locks explains what the clients of a file saw. An order that it gives does, by

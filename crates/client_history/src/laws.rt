@@ -1,7 +1,5 @@
 //! Laws of client histories, each as the contract of a function that does nothing.
-ghost use Rattle.client_history.specs.code.Moves.{QuestionsChangeNothing, ChangesStandEarlier};
-ghost use Rattle.client_history.specs.code.Prefixes.{EarlierIsExplained, PassingCallsMoveFirst};
-ghost use Rattle.client_history.specs.code.Prefixes.{MovedIsExplained, ReleasesComeFirst};
+ghost use Rattle.client_history.specs.code.Moves.{QuestionsChangeNothing, ChangesStandEarlier, EarlierIsExplained, PassingCallsMoveFirst, MovedIsExplained, ReleasesComeFirst};
 
 /// A call that only asks changes nothing.
 pub fn questions_change_nothing()

@@ -1,7 +1,7 @@
 //! Marks, which say which calls stand in an order.
 ghost use Rattle.std.specs.Prelude.{◌≡◌, IfOk, IfSome, None};
 ghost use Rattle.client_history.specs.rule.Explained.{AreWithin, IsOnce};
-ghost use Rattle.client_history.specs.code.Marks.{AreMarks};
+ghost use Rattle.client_history.specs.code.Moves.{AreMarks};
 
 use std::alloc::{AllocError, Global};
 

@@ -1,12 +1,10 @@
 //! The moments at which calls begin and end. A function here that gives a `Result` answers `AllocError` where a
 //! request for memory was refused.
 ghost use Rattle.std.specs.Prelude.{IfOk};
-ghost use Rattle.client_history.specs.code.Moments.{AreBegins, AreEnds};
-ghost use Rattle.client_history.specs.code.OwnerCalls.{AreOwnerCalls};
-ghost use Rattle.client_history.specs.code.Prefixes.{AreOrdered};
+ghost use Rattle.client_history.specs.code.Moves.{AreBegins, AreEnds, AreOrdered};
+ghost use Rattle.client_history.specs.code.OpenCalls.{AreOwnerCalls};
 
-use crate::client_call::ClientCall;
-use crate::owner_calls::OwnerCalls;
+use crate::{ClientCall, OwnerCalls};
 use std::alloc::{AllocError, Global};
 
 /// A time at which a call, named by its index, begins or ends.

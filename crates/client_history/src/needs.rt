@@ -2,22 +2,14 @@
 ghost use Rattle.std.specs.Prelude.{◌≡◌, ◌≢◌, ◌⊎◌, Some, None, true, false, IfOk, IsTrue, MatchOption, ◌↔◌};
 ghost use Rattle.model.specs.rule.Locks.{IsInWay};
 ghost use Rattle.lock_table.specs.rule.Tables.{held};
-ghost use Rattle.client_history.specs.rule.Acts.{ActStep};
-ghost use Rattle.client_history.specs.code.ClosedSets.{FindsNoLock, IsHeldUp, IsNotDenied, IsNeeded};
-ghost use Rattle.client_history.specs.rule.Explained.{the_file};
-ghost use Rattle.client_history.specs.code.FirstCalls.{LetsGo, HasRival, IsBarred, IsUntold, MayDeny, MayComeBefore};
+ghost use Rattle.client_history.specs.rule.Explained.{ActStep, the_file};
+ghost use Rattle.client_history.specs.code.OpenCalls.{FindsNoLock, IsHeldUp, IsNotDenied, IsNeeded, LetsGo, HasRival, IsBarred, IsUntold, MayDeny, MayComeBefore, IsLeftOf};
 ghost use Rattle.client_history.specs.code.Moves.{AsksOnly, Meet};
-ghost use Rattle.client_history.specs.code.OpenCalls.{IsLeftOf};
 
-use crate::act::Act;
-use crate::follow::{FILE, is_in_way};
-use crate::open_client_call::OpenClientCall;
-use crate::told_lock::ToldLock;
+use crate::{Act, FILE, OpenClientCall, ToldLock, is_in_way};
 use intervals::span::Span;
 use lock_table::lock_table::LockTable;
-use model::lock_info::LockInfo;
-use model::mode::Mode;
-use model::owner::Owner;
+use model::{LockInfo, Mode, Owner};
 use std::alloc::AllocError;
 
 /// Whether the call may be denied here, and its client was told nothing of the lock.

@@ -1,11 +1,9 @@
 //! Open calls: they have begun and not ended.
 ghost use Rattle.std.specs.Prelude.{◌≡◌, ◌≢◌, true, false, IsTrue, ◌↔◌};
 ghost use Rattle.client_history.specs.code.Moves.{AsksOnly};
-ghost use Rattle.client_history.specs.code.FirstCalls.{Changes};
-ghost use Rattle.client_history.specs.code.OpenCalls.{IsLeft};
+ghost use Rattle.client_history.specs.code.OpenCalls.{Changes, IsLeft};
 
-use crate::client_call::ClientCall;
-use crate::owner_calls::changes;
+use crate::{ClientCall, changes};
 
 /// A call that has begun and not ended, with its index, and the index of its owner's exit, if there is one.
 #[derive(Clone, Copy)]

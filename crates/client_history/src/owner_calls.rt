@@ -1,15 +1,12 @@
 //! The facts of each owner's calls that the search needs.
 ghost use Rattle.std.specs.Prelude.{◌≡◌, ℕ, ◌≤◌, false, List, slice_get, Some, IfOk, IfSome, IsTrue, OnOk, ◌↔◌};
 ghost use Rattle.client_history.specs.declared.client_call.ClientCall.{ClientCall as SomeCall};
-ghost use Rattle.client_history.specs.code.FirstCalls.{Changes};
-ghost use Rattle.client_history.specs.code.Moments.{IsBeginOf};
-ghost use Rattle.client_history.specs.code.Moves.{AsksOnly};
-ghost use Rattle.client_history.specs.code.OwnerCalls.{AreOwnerCalls, IsExitOfOwner, IsKnownOf};
+ghost use Rattle.client_history.specs.code.OpenCalls.{Changes, AreOwnerCalls, IsExitOfOwner, IsKnownOf};
+ghost use Rattle.client_history.specs.code.Moves.{IsBeginOf, AsksOnly};
 
-use crate::act::Act;
-use crate::client_call::ClientCall;
+use crate::{Act, ClientCall};
 use indexmap::IndexMap;
-use model::owner::Owner;
+use model::Owner;
 use std::alloc::{AllocError, Global};
 
 // The facts of one owner: the index of its exit, and the latest begin of its calls that have a reply, or 0.

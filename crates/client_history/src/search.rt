@@ -5,22 +5,15 @@ ghost use Rattle.lock_table.specs.rule.Tables.{held};
 ghost use Rattle.client_history.specs.declared.client_call.ClientCall.{ClientCall as SomeCall};
 ghost use Rattle.client_history.specs.declared.search_front.SearchFront.{SearchFront as SomeSearchFront};
 ghost use Rattle.client_history.specs.declared.moment.Moment.{Moment as SomeMoment};
-ghost use Rattle.client_history.specs.code.Moments.{AreByTime};
-ghost use Rattle.client_history.specs.code.OwnerCalls.{AreOwnerCalls};
-ghost use Rattle.client_history.specs.code.Reached.{GoesTo, GoesPast};
-ghost use Rattle.client_history.specs.code.Search.{AreSound};
-ghost use Rattle.client_history.specs.rule.Verdicts.{IsSearched};
+ghost use Rattle.client_history.specs.code.Moves.{AreByTime};
+ghost use Rattle.client_history.specs.code.OpenCalls.{AreOwnerCalls};
+ghost use Rattle.client_history.specs.code.Search.{GoesTo, GoesPast, AreSound};
+ghost use Rattle.client_history.specs.rule.Explained.{IsSearched};
 
-use crate::call_ending::{CallEnding, settle};
-use crate::client_call::ClientCall;
-use crate::closing::{forget_each, over_of, without};
-use crate::front_list::ask_each;
-use crate::moment::{Moment, begins_of, ends_of};
-use crate::open_client_call::OpenClientCall;
-use crate::owner_calls::OwnerCalls;
-use crate::paths::Paths;
-use crate::search_front::SearchFront;
-use crate::verdict::Verdict;
+use crate::{
+    CallEnding, ClientCall, Moment, OpenClientCall, OwnerCalls, Paths, SearchFront, Verdict,
+    ask_each, begins_of, ends_of, forget_each, over_of, settle, without,
+};
 use std::alloc::{AllocError, Global};
 
 /// The calls of a history, the facts of their owners, and their begins by time.

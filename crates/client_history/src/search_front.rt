@@ -3,13 +3,11 @@
 ghost use Rattle.std.specs.Prelude.{◌≡◌, ℕ, true, false, [], IfOk, IsTrue, ◌↔◌};
 ghost use Rattle.model.specs.rule.Locks.{Locks, no_locks};
 ghost use Rattle.lock_table.specs.rule.Tables.{held};
-ghost use Rattle.client_history.specs.rule.Acts.{ActStep};
-ghost use Rattle.client_history.specs.rule.Explained.{the_file, Stands};
+ghost use Rattle.client_history.specs.rule.Explained.{ActStep, the_file, Stands};
 ghost use Rattle.client_history.specs.code.Taken.{IsAlsoTaken};
 
 use crate::follow::follow;
-use crate::open_client_call::OpenClientCall;
-use crate::paths::Paths;
+use crate::{OpenClientCall, Paths};
 use lock_table::lock_table::LockTable;
 use std::alloc::{AllocError, Global};
 

@@ -4,9 +4,7 @@ ghost use Rattle.client_history.specs.declared.act.Act.TheVariants.{Drops};
 ghost use Rattle.client_history.specs.rule.Explained.{always};
 ghost use Rattle.client_history.specs.code.Search.{AreSound, IsSound, MayFollow};
 
-use crate::act::Act;
-use crate::client_call::ClientCall;
-use crate::owner_calls::changes;
+use crate::{Act, ClientCall, changes};
 
 /// Whether no call ends before it begins, each exit drops its owner's locks, and each call that follows another
 /// follows one of its own owner, where both change locks.

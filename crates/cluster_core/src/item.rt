@@ -1,7 +1,5 @@
 //! The items of a history: answered calls, and failed nodes.
-use model::call::CallId;
-use model::op::Op;
-use model::reply::Reply;
+use model::{CallId, Op, Reply};
 
 /// An item of a history, at a position of the journal, from 1: a call with its reply, or a node that failed, whose
 /// processes all exit there.

@@ -17,10 +17,7 @@ ghost use Rattle.cluster_core.specs.rule.Evidence.{DenialsHaveEvidence};
 use crate::check_error::CheckError;
 use crate::run::Run;
 use crate::world::{JOURNAL_LIMIT, World};
-use messages::entry::Entry;
-use messages::event::Event;
-use messages::refusal::Refused;
-use messages::shape::Shape;
+use messages::{Entry, Event, Refused, Shape};
 use std::alloc::{AllocError, Global};
 use std::marker::Model;
 

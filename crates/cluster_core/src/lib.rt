@@ -13,3 +13,12 @@ pub mod run;
 pub mod sent;
 mod sent_index;
 pub mod world;
+
+pub use check_error::CheckError;
+pub use held_lock::HeldLock;
+pub use item::Item;
+pub use journal::{Journal, comes_next};
+pub use laws::every_run_has_a_history;
+pub use node_token_run::NodeTokenRun;
+pub use run::Run;
+pub use world::{JOURNAL_LIMIT, World};

@@ -1,6 +1,6 @@
 //! A run of a token as the listing of a cluster's tokens shows it.
 use intervals::span::Span;
-use model::level::Level;
+use model::Level;
 
 /// A longest run of bytes of a file that the token of a live node has at one level. Nodes, incarnations and files
 /// count from 1.

@@ -21,11 +21,7 @@ ghost use Rattle.cluster_core.specs.rule.Evidence.{DenialsHaveEvidence};
 use crate::journal::Journal;
 use crate::world::world_change::WorldChange;
 use crate::world::{JOURNAL_LIMIT, World};
-use messages::entry::Entry;
-use messages::event::Event;
-use messages::refusal::Refused;
-use messages::shape::Shape;
-use messages::shared_message::SharedMessage;
+use messages::{Entry, Event, Refused, Shape, SharedMessage};
 use std::alloc::{AllocError, Global};
 use std::marker::Model;
 

@@ -1,11 +1,10 @@
 //! The messages that were sent in a run, in order.
 ghost use Rattle.std.specs.Prelude.{◌≡◌, [], ◌∷◌, ◌++◌, IfOk, IfSome, OnOk, OnErr};
 ghost use Rattle.messages.specs.rule.Messages.{is_among};
-ghost use Rattle.cluster_core.specs.code.SentIndexes.{Knows};
+ghost use Rattle.cluster_core.specs.code.Changes.{Knows};
 
 use crate::sent_index::{SentIndex, is_this};
-use messages::message::Message;
-use messages::shared_message::SharedMessage;
+use messages::{Message, SharedMessage};
 use std::alloc::{AllocError, Global};
 use std::marker::Model;
 
@@ -20,7 +19,7 @@ pub struct Sent {
 impl Model for Sent {
     ghost use Rattle.std.specs.Prelude.{List, IfSome};
     ghost use Rattle.messages.specs.declared.message.Message.{Message};
-    ghost use Rattle.cluster_core.specs.code.SentIndexes.{Knows};
+    ghost use Rattle.cluster_core.specs.code.Changes.{Knows};
 
     ghost Value = { List Message };
 

@@ -3,10 +3,9 @@ ghost use Rattle.std.specs.Prelude.{◌≡◌, ◌+◌, ◌<◌, ◌≤◌, [], 
 ghost use Rattle.std.specs.HashMap.{get, spare as spare_places};
 ghost use Rattle.std.specs.Vec.{vec_capacity};
 ghost use Rattle.messages.specs.rule.Messages.{same_message};
-ghost use Rattle.cluster_core.specs.code.SentIndexes.{fingerprint, has, stands_at, stands_among, KnowsFirst, SaysTheSame};
+ghost use Rattle.cluster_core.specs.code.Changes.{fingerprint, has, stands_at, stands_among, KnowsFirst, SaysTheSame};
 
-use messages::message::Message;
-use messages::shared_message::SharedMessage;
+use messages::{Message, SharedMessage};
 use std::alloc::{AllocError, Global};
 use std::collections::HashMap;
 use std::hash::{FoldHasher, Hash, Hasher};

@@ -5,10 +5,8 @@ use Rattle.clap.specs.Words.{HasKind, IsAmong, kind_of, Kinds, Text, fault_of, i
 use Rattle.clap.specs.declared.error.kind.ErrorKind.{ErrorKind}
 use Rattle.clap.specs.declared.error.kind.ErrorKind.TheVariants.{OutOfMemory, ValueValidation}
 use Rattle.clap.proofs.OnLiterals.{clap_on_literals}
-use Rattle.command_line.specs.rule.Kinds.{IsKindOf, IsOfKind}
-use Rattle.command_line.specs.rule.Program.{program_app}
+use Rattle.command_line.specs.rule.Words.{IsKindOf, IsOfKind, program_app, AsksFor, IsRefusal, IsShown}
 use Rattle.command_line.specs.rule.Tasks.{Task}
-use Rattle.command_line.specs.rule.Words.{AsksFor, IsRefusal, IsShown}
 use Rattle.command_line.specs.declared.refusal.Refusal.{Refusal}
 use Rattle.command_line.specs.declared.refusal.Refusal.TheVariants.{Help, Wrong, NotText, NoMemory}
 use Rattle.command_line.proofs.MetTasks.{one_met}

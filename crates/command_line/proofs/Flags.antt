@@ -2,8 +2,7 @@
 use Rattle.std.proofs.Common.{◌≡◌, Bool, true, false, Option, Some, None, refl, ap, sym, ◌∙◌}
 use Rattle.std.specs.Str.Parse.{ParsesBool}
 use Rattle.clap.specs.Words.{ReadsOne, Text}
-use Rattle.command_line.specs.rule.Kinds.{IsFlagOf}
-use Rattle.command_line.specs.rule.Met.{flag_text}
+use Rattle.command_line.specs.rule.Words.{IsFlagOf, flag_text}
 
 -- the text of a flag is read as a flag
 no_flag_read : (E : Type 0) (text : Text) (flag : Bool) (r : Option Bool) → ReadsOne {E = E} ParsesBool text r → r ≡ None → text ≡ flag_text flag → ⊥

@@ -6,7 +6,7 @@ use Rattle.std.proofs.Common.{ℕ, List, Option, Some, None, option_map, refl, s
 use Rattle.clap.specs.Walk.{row_text}
 use Rattle.clap.specs.Words.{Row, Text, first_of, one_of}
 use Rattle.clap.specs.Values.{read_as}
-use Rattle.command_line.specs.rule.Met.{IsNumber, MayBeNumber}
+use Rattle.command_line.specs.rule.Words.{IsNumber, MayBeNumber}
 
 -- what is read of the first value of an argument is there where the value is
 abbrev first_value_of : Option Row → Option Text

@@ -1,7 +1,7 @@
 -- The line of the command that a parse entered.
 use Rattle.std.proofs.Common.{subst, List, Option, None, Some, ◌≡◌, option_map}
 use Rattle.clap.specs.Words.{Row, Text}
-use Rattle.command_line.specs.rule.Kinds.{IsLineOf}
+use Rattle.command_line.specs.rule.Words.{IsLineOf}
 use Rattle.command_line.specs.declared.command_line.CommandLine.{CommandLine}
 
 -- a line of what is read under this word is one of the command whose name is the word

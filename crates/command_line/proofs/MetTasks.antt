@@ -1,10 +1,9 @@
 -- The task that a command that is met asks for: no two are met.
-use Rattle.std.specs.Prelude.{slice_get, unwrap_or}
-use Rattle.std.proofs.Common.{ℕ, Bool, true, false, cond, map, refl, sym, ap, codes, List, Option, Some, None, [], ◌∷◌, ◌≡◌, ◌∙◌}
+use Rattle.std.specs.Prelude.{unwrap_or}
+use Rattle.std.proofs.Common.{ℕ, Bool, map, refl, sym, ap, codes, List, Option, Some, None, [], ◌∷◌, ◌≡◌, ◌∙◌}
 use Rattle.clap.specs.Words.{Row, Text}
-use Rattle.command_line.specs.rule.JudgeTasks.{JudgeTask, rule_text}
-use Rattle.command_line.specs.rule.Met.{flag_text, judge_values_in, IsMet, IsNumber, MayBeNumber}
-use Rattle.command_line.specs.rule.Tasks.{Task, run, threads, audit, history, state, judge, greatest_seed}
+use Rattle.command_line.specs.rule.Tasks.{JudgeTask, rule_text, Task, run, threads, audit, history, state, judge, greatest_seed}
+use Rattle.command_line.specs.rule.Words.{flag_text, judge_values_in, IsMet, IsNumber, MayBeNumber}
 use Rattle.command_line.proofs.MetValues.{Values, Judged, value_at, text_at, histories_at, rule_words, beside_histories, name_of, name_is, number_of, number_given, is_given, given_is, rule_named, rules_are, asked_of, task_named}
 
 named : (p : Text × List Row) (task : Task) → IsMet (Some p) task → task_named p.0 p.1 ≡ task_named (name_of task) p.1

@@ -5,11 +5,10 @@ use Rattle.std.specs.Str.{bytes_eq}
 use Rattle.std.specs.Str.Parse.{digits_value, without_leading_plus}
 use Rattle.std.proofs.Common.{ℕ, Bool, true, false, cond, map, option_map, refl, ap, codes, List, Option, Some, None, [], ◌∷◌, ◌≡◌}
 use Rattle.clap.specs.Words.{Row, Text, all_of, first_of, one_of}
-use Rattle.command_line.specs.rule.JudgeTasks.{JudgeTask, rule_text}
-use Rattle.command_line.specs.rule.Met.{flag_text, IsMet}
-use Rattle.command_line.specs.rule.Tasks.{Task, run, threads, audit, history, state, judge}
-use Rattle.command_line.specs.declared.allowed_rule.AllowedRule.{AllowedRule}
-use Rattle.command_line.specs.declared.allowed_rule.AllowedRule.TheVariants.{WaitDrops, CloseOwnDescriptor, NoQuery, StaleReadDenial, LostAt}
+use Rattle.command_line.specs.rule.Tasks.{JudgeTask, rule_text, Task, run, threads, audit, history, state, judge}
+use Rattle.command_line.specs.rule.Words.{flag_text, IsMet}
+use Rattle.command_line.specs.declared.judge_line.AllowedRule.{AllowedRule}
+use Rattle.command_line.specs.declared.judge_line.AllowedRule.TheVariants.{WaitDrops, CloseOwnDescriptor, NoQuery, StaleReadDenial, LostAt}
 
 abbrev pub Values : Type 0
 Values = Text × List (Option Text)

@@ -3,7 +3,7 @@ use Rattle.std.proofs.Common.{◌≡◌, ◌≤◌, ℕ, List, Option, Some, Non
 use Rattle.std.specs.Prelude.{Result, Ok, Err}
 use Rattle.std.specs.Str.Parse.{IsNumeral, ParsesUnsigned, digits_value, without_leading_plus}
 use Rattle.clap.specs.Words.{ReadsOne, Text}
-use Rattle.command_line.specs.rule.Met.{IsNumber}
+use Rattle.command_line.specs.rule.Words.{IsNumber}
 use Rattle.command_line.specs.rule.Tasks.{greatest_seed}
 
 -- how a text of 32 bits is read

@@ -3,9 +3,9 @@ use Rattle.std.specs.Prelude.{get_or, slice_get, unwrap_or, zero, suc}
 use Rattle.std.proofs.Common.{arith, ap, sym, append-nil, append_assoc, drop, length, map, Bor, ℕ, List, [], ◌∷◌, ◌++◌, ◌+◌, ◌<◌, ◌≤◌, ◌≡◌, ◌∙◌, None}
 use Rattle.std.proofs.lemmas.List.{drop_all, drop_more, map-append}
 use Rattle.clap.specs.Words.{Text}
-use Rattle.command_line.specs.rule.JudgeTasks.{rule_text}
-use Rattle.command_line.specs.rule.Kinds.{IsRuleOf}
-use Rattle.command_line.specs.declared.allowed_rule.AllowedRule.{AllowedRule}
+use Rattle.command_line.specs.rule.Tasks.{rule_text}
+use Rattle.command_line.specs.rule.Words.{IsRuleOf}
+use Rattle.command_line.specs.declared.judge_line.AllowedRule.{AllowedRule}
 
 abbrev now_of : Bor Text → Text
 now_of word = word.now

@@ -1,7 +1,5 @@
 -- What the table of a command says of its parts.
-use Rattle.std.proofs.Common.{ap, arith, refl, sym, true, false, is_some, length, map, not, option_map, Bool, Bor, List, Option, [], ◌∷◌, None, Some, ◌==◌, ◌≡◌, ◌≢◌, ◌∙◌}
-use Rattle.std.specs.Prelude.{get_or}
-use Rattle.std.proofs.lemmas.Bool.{ne_eqb}
+use Rattle.std.proofs.Common.{ap, refl, sym, true, false, is_some, map, not, option_map, Bool, Bor, List, Option, None, Some, ◌≡◌, ◌∙◌}
 use Rattle.clap.specs.Walk.{is_empty, is_simple_arg}
 use Rattle.clap.specs.Words.{all_of, app_of, first_of, first_value, matched_of, raw_values, rows_of, rule_of, App, Rule, Text}
 use Rattle.clap.specs.declared.parser.matches.Found.{Found}

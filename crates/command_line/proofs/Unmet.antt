@@ -2,10 +2,9 @@
 use Rattle.std.specs.Prelude.{unwrap_or}
 use Rattle.std.proofs.Common.{ℕ, Bool, map, sym, subst, ap, codes, List, Option, Some, None, [], ◌∷◌, ◌≡◌, ◌∙◌}
 use Rattle.clap.specs.Words.{Row, Text, all_of, first_of, one_of}
-use Rattle.command_line.specs.rule.JudgeTasks.{JudgeTask, MayJudge, rule_text}
-use Rattle.command_line.specs.rule.Met.{flag_text, judge_values_in, IsMet, IsNumber, MayBeNumber}
-use Rattle.command_line.specs.rule.Tasks.{Task, greatest_seed, MayBeQuiet}
-use Rattle.command_line.specs.declared.allowed_rule.AllowedRule.{AllowedRule}
+use Rattle.command_line.specs.rule.Tasks.{JudgeTask, MayJudge, rule_text, Task, greatest_seed, MayBeQuiet}
+use Rattle.command_line.specs.rule.Words.{flag_text, judge_values_in, IsMet, IsNumber, MayBeNumber}
+use Rattle.command_line.specs.declared.judge_line.AllowedRule.{AllowedRule}
 use Rattle.command_line.proofs.MetValues.{beside_histories, flag_in, given_is, histories_at, is_given, rule_words, task_named, value_at}
 use Rattle.command_line.proofs.MetTasks.{asked_is, met_is, unmet}
 

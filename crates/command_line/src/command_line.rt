@@ -1,18 +1,14 @@
 //! The lines that words may ask for.
-ghost use Rattle.std.specs.Prelude.{◌≡◌, ◌⊎◌, codes, false, true, map, IfErr, IfOk, Some};
+ghost use Rattle.std.specs.Prelude.{◌≡◌, ◌⊎◌, ℕ, List, codes, false, true, map, IfErr, IfOk, Some};
 ghost use Rattle.std.specs.Option.{option_map};
-ghost use Rattle.clap.specs.Words.{app_of, found_of, kind_of, rows_of, subcommand_rows_of};
+ghost use Rattle.clap.specs.Words.{found_of, kind_of, rows_of, subcommand_rows_of};
 ghost use Rattle.clap.specs.declared.error.kind.ErrorKind.TheVariants.{OutOfMemory, ValueValidation};
-ghost use Rattle.command_line.specs.rule.Kinds.{IsKindOf, IsLineOf};
-ghost use Rattle.command_line.specs.rule.Program.{program_app};
-ghost use Rattle.command_line.specs.rule.Tasks.{task_of, MayBeQuiet};
-ghost use Rattle.command_line.specs.rule.Words.{AsksFor, IsRefusal};
+ghost use Rattle.command_line.specs.rule.Words.{IsKindOf, IsLineOf, AsksFor, IsRefusal};
+ghost use Rattle.command_line.specs.rule.Tasks.{task_of, MayBeQuiet, Task};
 
 use crate::commands::program;
-use crate::judge_line::JudgeLine;
-use crate::judge_words::{judge_complaint, judge_in};
+use crate::judge_line::{JudgeLine, judge_complaint, judge_in};
 use crate::refusal::Refusal;
-use crate::run_line::{RunLine, ThreadsLine};
 use crate::values::{GREATEST_SEED, flag_in, number_if_given, number_in};
 use clap::error::ErrorKind;
 use clap::{ArgMatches, Command, Error};
@@ -38,6 +34,38 @@ pub enum CommandLine<'a> {
     Judge(JudgeLine<'a>),
 }
 
+/// `run SCRIPT [--after JOURNAL] [--journal FILE] [--expect] [--quiet] [--calm]`: to run each line of the script in order,
+/// and to print the listing.
+#[derive(Clone, Copy)]
+pub struct RunLine<'a> {
+    pub script: &'a str,
+    /// The journal behind whose run the script goes on, if it doesn't run in a cluster that begins.
+    pub after: Option<&'a str>,
+    /// The file to which the journal of the run is written first, if there is one.
+    pub journal: Option<&'a str>,
+    /// Whether the replies are compared with what the script expects.
+    pub expect: bool,
+    /// Whether the listing is left away. It may be where there is a file for the journal, or the replies are compared.
+    pub quiet: bool,
+    /// Whether the run goes on behind the script's lines until it is calm.
+    pub calm: bool,
+}
+
+/// `threads SCRIPT [--seed N] [--stop-when-stuck] [--no-join] [--journal FILE]`: to run the script on threads, and to print the
+/// listing, how many receipts its journal holds and whether that is one of a run.
+#[derive(Clone, Copy)]
+pub struct ThreadsLine<'a> {
+    pub script: &'a str,
+    /// The seed of the weather that messages meet; 1 where it is left out.
+    pub seed: u32,
+    /// Whether the run ends where no open call can be answered any more.
+    pub stop_when_stuck: bool,
+    /// Whether failures and starts are made beside open calls.
+    pub no_join: bool,
+    /// The file to which the journal of the run is written first, if there is one.
+    pub journal: Option<&'a str>,
+}
+
 impl<'a> CommandLine<'a> {
     /// What the words ask for, the first of them being the program's name.
     ///
@@ -55,29 +83,17 @@ impl<'a> CommandLine<'a> {
     }
 }
 
-// The line, or the parser's error.
+// The line that the program's command makes of the words, or its error.
 fn line_in<'a, S: AsStr>(alloc: Global, words: &'a [S]) -> Result<CommandLine<'a>, Error>
     ensures asked { IfOk result (λ line. AsksFor (map S.text words.entry.now) (task_of line)) }
     ensures kind { IfErr result (λ error. IsKindOf (map S.text words.entry.now) (kind_of error)) }
 {
     let mut command = program(alloc)?;
-    line_by(alloc, &mut command, words)
-}
-
-// The line that the program's command makes of the words, or its error.
-fn line_by<'a, S: AsStr>(
-    alloc: Global,
-    command: &mut Command<'a>,
-    words: &'a [S],
-) -> Result<CommandLine<'a>, Error>
-    ensures asked { app_of command.old ≡ program_app → IfOk result (λ line. AsksFor (map S.text words.entry.now) (task_of line)) }
-    ensures kind { app_of command.old ≡ program_app → IfErr result (λ error. IsKindOf (map S.text words.entry.now) (kind_of error)) }
-{
     let matches = command.try_get_matches_from_mut(words)?;
     let met = line_of(alloc, &matches)?;
     match met {
         Some(line) => Ok(line),
-        None => Err(unserved(command, &matches)),
+        None => Err(unserved(&mut command, &matches)),
     }
 }
 
@@ -193,3 +209,8 @@ fn state_in<'a>(values: &ArgMatches<'a>) -> Option<CommandLine<'a>>
     let at = number_if_given(values, "K", 0, GREATEST_SEED)?;
     Some(CommandLine::State { journal, at })
 }
+
+/// No words ask for two things.
+pub fn words_ask_for_one_task()
+    ensures { (words : List (List ℕ)) (one other : Task) → AsksFor words one → AsksFor words other → one ≡ other }
+{}

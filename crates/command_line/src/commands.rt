@@ -1,11 +1,11 @@
 //! The commands of the program.
-ghost use Rattle.std.specs.Prelude.{◌≡◌, codes, IfOk};
+ghost use Rattle.std.specs.Prelude.{◌≡◌, IfOk};
 ghost use Rattle.clap.specs.Words.{app_of, rule_of};
-ghost use Rattle.command_line.specs.rule.Program.{allow_rule, audit_app, bare_app, file_rule, history_app, judge_app, paths_rule, program_app, run_app, seed_rule, state_app, steps_rule, threads_app};
+ghost use Rattle.command_line.specs.rule.Words.{audit_app, bare_app, file_rule, history_app, judge_app, program_app, run_app, state_app, threads_app};
 
-use crate::judge_notes::JUDGE_NOTES;
 use crate::notes::{
-    AUDIT_NOTES, HISTORY_NOTES, PROGRAM_NOTES, RUN_NOTES, STATE_NOTES, THREADS_NOTES, VERSION,
+    AUDIT_NOTES, HISTORY_NOTES, JUDGE_NOTES, PROGRAM_NOTES, RUN_NOTES, STATE_NOTES, THREADS_NOTES,
+    VERSION,
 };
 use crate::table::{bare_command, flag, number, option, with_argument, with_command, word};
 use crate::values::GREATEST_SEED;
@@ -67,7 +67,9 @@ fn threads_command<'a>(alloc: Global) -> Result<Command<'a>, AllocError>
     let about = "Run a script on threads and print the listing";
     let command = bare_command(alloc, "threads", about, THREADS_NOTES);
     let command = with_argument(command, word(alloc, "SCRIPT", SCRIPT))?;
-    let command = with_argument(command, seed(alloc))?;
+    let help = "The seed of the weather that messages meet, up to 4294967295";
+    let seed = number(alloc, "N", "seed", help, 0, GREATEST_SEED).default_value("1");
+    let command = with_argument(command, seed)?;
     let help = "End the run where no open call can be answered any more";
     let command = with_argument(command, flag(alloc, "stop-when-stuck", help))?;
     let help = "Make failures and starts while calls are open";
@@ -108,11 +110,17 @@ fn judge_command<'a>(alloc: Global) -> Result<Command<'a>, AllocError>
 {
     let about = "Judge what clients of a lock manager saw";
     let command = bare_command(alloc, "judge", about, JUDGE_NOTES);
-    let command = with_argument(command, histories(alloc))?;
-    let command = with_argument(command, steps(alloc))?;
+    let help = "The history: a file of lines, or - for standard input";
+    let histories = word(alloc, "HISTORY", help).action(ArgAction::Append);
+    let command = with_argument(command, histories)?;
+    let help = "How many tables of a file are looked at, up to 4294967295";
+    let steps = number(alloc, "N", "steps", help, 1, GREATEST_SEED).default_value("10000000");
+    let command = with_argument(command, steps)?;
     let help = "Say whether the order in FILE explains HISTORY";
     let command = with_argument(command, option(alloc, "FILE", "explains", help))?;
-    let command = with_argument(command, rules(alloc))?;
+    let help = "Allow a difference from one table, as wait-drops";
+    let rules = option(alloc, "RULE", "allow", help).action(ArgAction::Append);
+    let command = with_argument(command, rules)?;
     let help = "Print an order of the calls that explains them";
     let command = with_argument(command, flag(alloc, "order", help))?;
     let help = "Leave out what fits nowhere, and go on behind it";
@@ -128,32 +136,4 @@ fn journal_file<'a>(alloc: Global) -> Arg<'a>
 {
     let help = "Write the journal of the run to FILE";
     option(alloc, "FILE", "journal", help)
-}
-
-fn seed<'a>(alloc: Global) -> Arg<'a>
-    ensures { rule_of result ≡ seed_rule }
-{
-    let help = "The seed of the weather that messages meet, up to 4294967295";
-    number(alloc, "N", "seed", help, 0, GREATEST_SEED).default_value("1")
-}
-
-fn histories<'a>(alloc: Global) -> Arg<'a>
-    ensures { rule_of result ≡ paths_rule (codes "HISTORY") }
-{
-    let help = "The history: a file of lines, or - for standard input";
-    word(alloc, "HISTORY", help).action(ArgAction::Append)
-}
-
-fn steps<'a>(alloc: Global) -> Arg<'a>
-    ensures { rule_of result ≡ steps_rule }
-{
-    let help = "How many tables of a file are looked at, up to 4294967295";
-    number(alloc, "N", "steps", help, 1, GREATEST_SEED).default_value("10000000")
-}
-
-fn rules<'a>(alloc: Global) -> Arg<'a>
-    ensures { rule_of result ≡ allow_rule }
-{
-    let help = "Allow a difference from one table, as wait-drops";
-    option(alloc, "RULE", "allow", help).action(ArgAction::Append)
 }

@@ -2,15 +2,10 @@
 //! no command, and knows nothing of files and runs.
 #![tactic(auto)]
 
-pub mod allowed_rule;
 pub mod command_line;
 mod commands;
 pub mod judge_line;
-mod judge_notes;
-mod judge_words;
-pub mod laws;
 mod notes;
 pub mod refusal;
-pub mod run_line;
 pub mod table;
 mod values;

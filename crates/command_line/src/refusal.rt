@@ -1,6 +1,6 @@
 //! Why words are no command line.
 ghost use Rattle.clap.specs.Words.{kind_of};
-ghost use Rattle.command_line.specs.rule.Kinds.{IsOfKind};
+ghost use Rattle.command_line.specs.rule.Words.{IsOfKind};
 
 use clap::error::ErrorKind;
 use std::alloc::Global;

@@ -1,7 +1,7 @@
 //! The parts of a table of commands, as the parser takes them.
 ghost use Rattle.std.specs.Prelude.{◌≡◌, true, IfOk};
 ghost use Rattle.clap.specs.Words.{app_of, new_app, rule_of, with_rule, with_subcommand};
-ghost use Rattle.command_line.specs.rule.Program.{bounded_rule, flag_rule, option_rule, path_rule};
+ghost use Rattle.command_line.specs.rule.Words.{bounded_rule, flag_rule, option_rule, path_rule};
 
 use clap::builder::ValueParser;
 use clap::{Arg, ArgAction, Command};

@@ -1,6 +1,6 @@
 //! The numbers and the flags among the values of a command line.
 ghost use Rattle.clap.specs.Words.{found_of, one_of, rows_of};
-ghost use Rattle.command_line.specs.rule.Kinds.{IsFlagOf, IsNumberOf, MayBeNumberOf};
+ghost use Rattle.command_line.specs.rule.Words.{IsFlagOf, IsNumberOf, MayBeNumberOf};
 
 use clap::ArgMatches;
 

@@ -1,4 +1,2 @@
 pub mod RowLaws
 pub mod CountLaws
-pub mod PlaceLaws
-pub mod Beginnings

@@ -3,16 +3,19 @@ use Rattle.std.specs.Prelude.{◌≡◌, ◌≢◌, ◌⊎◌, ℕ, zero, suc, �
 use Rattle.std.proofs.Common.{arith, ap, subst, sym, ◌∙◌, inl, inr}
 use Rattle.std.proofs.lemmas.Bool.{cases_lt, cases_Bool, cases_eq, eq-eqb, ne_eqb, eqb-true, both_ways, false≢true}
 use Rattle.std.proofs.lemmas.List.{get_or-set_same, get_or-set_other, get_or_past}
-use Rattle.intervals.specs.rule.Search.{some_passes}
+use Rattle.intervals.specs.rule.Search.{some_passes, first}
 use Rattle.model.specs.declared.opened.Opened.{Opened}
 use Rattle.model.specs.rule.Limits.{IsNumber, most_processes, most_descriptions}
 use Rattle.model.specs.rule.Descriptors.{Processes, no_processes, with_process, with_descriptor}
 use Rattle.model.proofs.SearchLaws.{failed-start, first-passes, some_passes-found, some_passes-none}
-use Rattle.intervals.specs.rule.Search.{first}
 use Rattle.descriptors.specs.declared.process_entry.ProcessEntry.{ProcessEntry}
 use Rattle.descriptors.specs.declared.error.FdError.TheVariants.{NoProcess}
-use Rattle.descriptors.specs.code.Rows.{IsSameRow, AreNumbered, IsRow, AreRows, resolved, opened_or}
+use Rattle.descriptors.specs.code.Rows.{IsSameRow, AreNumbered, IsRow, AreRows, resolved, opened_or, CanBegin}
 use Rattle.descriptors.specs.rule.Rows.{slot, idle, row, processes}
+use Rattle.model.specs.declared.op.Op.TheVariants.{Process}
+use Rattle.model.specs.declared.op.ProcessCall.{ProcessCall}
+use Rattle.model.specs.declared.op.ProcessCall.TheVariants.{Spawn, Fork}
+use Rattle.model.specs.rule.Step.{IsPossible}
 
 -- a search of no numbers finds none that passes
 pub some_passes-zero : (passes : ℕ → Bool) (lo : ℕ) → some_passes passes lo 0 ≡ false
@@ -257,3 +260,9 @@ none_run rows n are none within = processes-is rows no_processes runs (λ q fd. 
       | inl lt ↦ sym (processes-runs rows q) ∙ none q lt
       | inr le ↦ ap (λ (r : ProcessEntry). r.runs) (get_or_past rows q idle (omega arith))
     ]
+
+-- the process that would begin has a number that it can have
+pub can_begin : (pid : ℕ) (call : ProcessCall) → IsNumber most_processes pid → IsPossible (Process call) → CanBegin pid call
+can_begin pid Spawn pid_in possible = pid_in
+can_begin pid (Fork child) pid_in possible = possible
+can_begin pid _ pid_in possible = tt

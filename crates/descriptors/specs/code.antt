@@ -1,4 +1,2 @@
 pub mod Rows
 pub mod Edits
-pub mod Calls
-pub mod Counts

@@ -2,13 +2,12 @@
 ghost use Rattle.std.specs.Prelude.{◌≡◌, ◌≤◌, ◌<◌, ◌+◌, ◌-◌, ◌==◌, ℕ, [], IfOk, OnOk, length, slice_set};
 ghost use Rattle.intervals.specs.rule.Search.{first};
 ghost use Rattle.model.specs.rule.Limits.{most_descriptors, most_descriptions};
-ghost use Rattle.descriptors.specs.code.Rows.{AreRows};
+ghost use Rattle.descriptors.specs.code.Rows.{AreRows, count_of, references_below, AreCounts, AreUsed};
 ghost use Rattle.descriptors.specs.rule.Rows.{processes};
-ghost use Rattle.descriptors.specs.code.Counts.{count_of, references_below, AreCounts, AreUsed};
 
 use crate::process_entry::ProcessEntry;
 use crate::rows::opened_at;
-use model::limits::{MOST_DESCRIPTIONS, MOST_DESCRIPTORS};
+use model::{MOST_DESCRIPTIONS, MOST_DESCRIPTORS};
 use std::alloc::{AllocError, Global};
 use std::marker::Model;
 
@@ -23,7 +22,7 @@ pub struct Counts {
 
 impl Model for Counts {
     ghost use Rattle.std.specs.Prelude.{List, ◌≤◌, ℕ};
-    ghost use Rattle.descriptors.specs.code.Counts.{AreUsed};
+    ghost use Rattle.descriptors.specs.code.Rows.{AreUsed};
 
     ghost Value = { List ℕ };
 

@@ -1,6 +1,6 @@
 //! Planned changes of the processes of a node.
 use crate::processes::Processes;
-use model::opened::Opened;
+use model::Opened;
 
 /// A planned change of one process.
 #[derive(Drop)]

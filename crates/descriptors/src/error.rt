@@ -4,7 +4,7 @@ ghost use Rattle.model.specs.declared.reply.Reply.{Reply};
 ghost use Rattle.model.specs.rule.Descriptors.{Processes};
 ghost use Rattle.descriptors.specs.code.Rows.{Refuses, fd_reply};
 
-use model::reply::Reply;
+use model::Reply;
 use std::alloc::AllocError;
 use thiserror::Error;
 

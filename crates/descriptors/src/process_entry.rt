@@ -4,8 +4,7 @@ ghost use Rattle.model.specs.rule.Descriptors.{is_of_file};
 ghost use Rattle.descriptors.specs.code.Rows.{IsSameRow};
 ghost use Rattle.descriptors.specs.rule.Rows.{slot};
 
-use model::limits::MOST_DESCRIPTORS;
-use model::opened::Opened;
+use model::{MOST_DESCRIPTORS, Opened};
 
 /// Whether a process runs, and what each of its descriptors refers to.
 #[derive(Clone, Copy)]

@@ -10,9 +10,7 @@ use crate::counts::{Counts, release};
 use crate::error::{FdError, ProcessError};
 use crate::process_entry::{ProcessEntry, is_of_file};
 use crate::rows::{is_idle, is_running, opened_at, reset, same_rows};
-use model::access::Access;
-use model::limits::{MOST_DESCRIPTORS, MOST_PROCESSES};
-use model::opened::Opened;
+use model::{Access, MOST_DESCRIPTORS, MOST_PROCESSES, Opened};
 use std::alloc::{AllocError, Global};
 use std::marker::Model;
 
@@ -44,9 +42,8 @@ pub struct Processes {
 impl Model for Processes {
     ghost use Rattle.std.specs.Prelude.{◌≡◌, List, length};
     ghost use Rattle.descriptors.specs.declared.process_entry.ProcessEntry.{ProcessEntry};
-    ghost use Rattle.descriptors.specs.code.Rows.{AreRows};
+    ghost use Rattle.descriptors.specs.code.Rows.{AreRows, AreCounts, places};
     ghost use Rattle.descriptors.specs.rule.Rows.{processes};
-    ghost use Rattle.descriptors.specs.code.Counts.{AreCounts, places};
 
     ghost Value = { List ProcessEntry };
 

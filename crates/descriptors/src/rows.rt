@@ -6,7 +6,7 @@ ghost use Rattle.descriptors.specs.code.Rows.{IsSameRow, AreRows};
 ghost use Rattle.descriptors.specs.rule.Rows.{slot, row, processes};
 
 use crate::process_entry::ProcessEntry;
-use model::opened::Opened;
+use model::Opened;
 use std::alloc::AllocError;
 
 // The row of the process with the number `pid`.

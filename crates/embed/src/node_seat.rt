@@ -1,14 +1,7 @@
 //! The seat of a node.
-use crate::letter::NodeLetter;
-use crate::wire::message_in;
-use messages::event::NodeInput;
-use messages::message::Message;
-use messages::outcome::Outcome;
-use messages::patience::Patience;
-use messages::sends::Sends;
-use node_core::event::NodeEvent;
-use node_core::node::Node;
-use node_core::open_call::OpenCall;
+use crate::letter::{Letter, message_in};
+use messages::{NodeInput, Outcome, Patience, Sends};
+use node_core::{Node, NodeEvent};
 use std::alloc::{AllocError, Global};
 use std::collections::VecDeque;
 
@@ -16,7 +9,7 @@ use std::collections::VecDeque;
 #[derive(Drop)]
 pub struct NodeSeat {
     node: Option<Box<Node>>,
-    inbox: VecDeque<NodeLetter>,
+    inbox: VecDeque<Letter<NodeInput>>,
     // Of all open calls of the node together.
     patience: Patience,
 }
@@ -44,7 +37,7 @@ impl NodeSeat {
     }
 
     /// The letter comes last in the inbox. At an empty seat it is lost.
-    pub fn put(&mut self, letter: NodeLetter) -> Result<(), AllocError> {
+    pub fn put(&mut self, letter: Letter<NodeInput>) -> Result<(), AllocError> {
         if self.node.is_some() {
             self.inbox.push_back(letter)?;
         }
@@ -68,34 +61,27 @@ fn take(
     rt: &HostRuntime,
     node: &mut Node,
     patience: &mut Patience,
-    letter: NodeLetter,
+    letter: Letter<NodeInput>,
 ) -> anyhow::Result<Sends> {
     match letter {
-        NodeLetter::Call { pid, op } => {
-            step(rt, node, &NodeEvent::Input(NodeInput::Call { pid, op }))
-        }
-        NodeLetter::Line(line) => deliver(rt, node, &line),
-        NodeLetter::Tick => tick(rt, node, patience),
+        Letter::Input(input) => step(rt, node, input),
+        Letter::Line(line) => deliver(rt, node, &line),
+        Letter::Tick => tick(rt, node, patience),
     }
 }
 
-// Lets the event happen, and prints the reply if it answers a call. What is sent.
-fn step(rt: &HostRuntime, node: &mut Node, event: &NodeEvent) -> anyhow::Result<Sends> {
-    let change = node.plan(rt.alloc(), event)?;
+// Lets the input happen. What is sent.
+fn step(rt: &HostRuntime, node: &mut Node, input: NodeInput) -> anyhow::Result<Sends> {
+    let change = node.plan(rt.alloc(), &NodeEvent::Input(input))?;
     told(rt, node.apply(change))
 }
 
 // The message of the line comes. What is sent. A line of no message is lost.
 fn deliver(rt: &HostRuntime, node: &mut Node, line: &str) -> anyhow::Result<Sends> {
-    match message_in(rt.alloc(), line)? {
-        Some(message) => receive(rt, node, &message),
-        None => Ok(Sends::nothing()),
-    }
-}
-
-// The message comes, and the reply is printed if it answers a call. What is sent.
-fn receive(rt: &HostRuntime, node: &mut Node, message: &Message) -> anyhow::Result<Sends> {
-    let change = node.plan_delivery(rt.alloc(), message)?;
+    let Some(message) = message_in(rt.alloc(), line)? else {
+        return Ok(Sends::nothing());
+    };
+    let change = node.plan_delivery(rt.alloc(), &message)?;
     told(rt, node.apply(change))
 }
 
@@ -119,30 +105,20 @@ fn tick(rt: &HostRuntime, node: &mut Node, patience: &mut Patience) -> anyhow::R
         return Ok(sends);
     }
     if patience.is_due() {
-        let calls = Vec::from_slice(rt.alloc(), node.open_calls())?;
-        retry_all(rt, node, &calls, &mut sends)?;
+        retry(rt, node, &mut sends)?;
     }
     *patience = patience.after_tick();
     Ok(sends)
 }
 
-// Tries these open calls again. What is sent is put behind what is.
-fn retry_all(
-    rt: &HostRuntime,
-    node: &mut Node,
-    calls: &[OpenCall],
-    sends: &mut Sends,
-) -> anyhow::Result<()> {
-    for call in calls {
-        sends.append(rt.alloc(), retry(rt, node, call)?)?;
+// Tries the open calls again. What is sent is put behind what is.
+fn retry(rt: &HostRuntime, node: &mut Node, sends: &mut Sends) -> anyhow::Result<()> {
+    let calls = Vec::from_slice(rt.alloc(), node.open_calls())?;
+    let by = node.host().node;
+    for call in &calls {
+        println!(rt; "node {by} tries call {} again", call.number)?;
+        let sent = step(rt, node, NodeInput::Retry { pid: call.pid })?;
+        sends.append(rt.alloc(), sent)?;
     }
     Ok(())
-}
-
-// Tries an open call again. What is sent.
-fn retry(rt: &HostRuntime, node: &mut Node, call: &OpenCall) -> anyhow::Result<Sends> {
-    let by = node.host().node;
-    println!(rt; "node {by} tries call {} again", call.number)?;
-    let retry = NodeInput::Retry { pid: call.pid };
-    step(rt, node, &NodeEvent::Input(retry))
 }

@@ -1,14 +1,9 @@
 //! The office of the token server.
-use crate::letter::ServerLetter;
-use crate::wire::message_in;
-use messages::event::{Event, ServerInput};
-use messages::pace::Pace;
-use messages::sends::Sends;
-use messages::shared_message::SharedMessage;
+use crate::letter::{Letter, message_in};
+use messages::{Event, Pace, Sends, ServerInput, SharedMessage};
 use std::alloc::{AllocError, Global};
 use std::collections::VecDeque;
-use token_server::event::ServerEvent;
-use token_server::server::Server;
+use token_server::{Server, ServerEvent};
 
 // The one file of the cluster.
 pub const FILE: u16 = 1;
@@ -17,7 +12,7 @@ pub const FILE: u16 = 1;
 #[derive(Drop)]
 pub struct Office {
     server: Box<Server>,
-    inbox: VecDeque<ServerLetter>,
+    inbox: VecDeque<Letter<ServerInput>>,
     pace: Pace,
 }
 
@@ -32,7 +27,7 @@ impl Office {
     }
 
     /// The letter comes last in the inbox.
-    pub fn put(&mut self, letter: ServerLetter) -> Result<(), AllocError> {
+    pub fn put(&mut self, letter: Letter<ServerInput>) -> Result<(), AllocError> {
         self.inbox.push_back(letter)?;
         Ok(())
     }
@@ -46,21 +41,16 @@ impl Office {
     }
 
     // The server takes a letter. What it sends.
-    fn take(&mut self, rt: &HostRuntime, letter: ServerLetter) -> anyhow::Result<Sends> {
+    fn take(&mut self, rt: &HostRuntime, letter: Letter<ServerInput>) -> anyhow::Result<Sends> {
         match letter {
-            ServerLetter::Declared { node, incarnation } => {
-                self.learn(rt.alloc(), ServerInput::Learn { node, incarnation })
+            Letter::Input(news) => {
+                self.pace = self.pace.noted(&Event::AtServer(FILE, news));
+                let change = self.server.plan(rt.alloc(), &ServerEvent::Input(news))?;
+                Ok(self.server.apply(change).sends)
             }
-            ServerLetter::Line(line) => self.deliver(rt.alloc(), &line),
-            ServerLetter::Tick => self.tick(rt),
+            Letter::Line(line) => self.deliver(rt.alloc(), &line),
+            Letter::Tick => self.tick(rt),
         }
-    }
-
-    // The server learns of a declaration. What it sends.
-    fn learn(&mut self, alloc: Global, news: ServerInput) -> anyhow::Result<Sends> {
-        self.pace = self.pace.noted(&Event::AtServer(FILE, news));
-        let change = self.server.plan(alloc, &ServerEvent::Input(news))?;
-        Ok(self.server.apply(change).sends)
     }
 
     // The message of the line comes. What the server sends. A line of no message is lost.

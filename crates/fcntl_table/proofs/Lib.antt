@@ -1,4 +1,3 @@
-pub mod TargetLaws
 pub mod HostLaws
 pub mod TableLaws
 pub mod ExitLaws

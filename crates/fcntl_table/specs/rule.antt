@@ -1,3 +1,2 @@
 pub mod Hosts
 pub mod Tables
-pub mod Targets

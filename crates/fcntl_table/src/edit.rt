@@ -1,9 +1,7 @@
 //! Planned changes of the table, as plain data.
 use descriptors::edit::ProcessEdit;
 use lock_table::lock_table::LockEdit;
-use model::host::Host;
-use model::process::Process;
-use model::reply::Reply;
+use model::{Host, Process, Reply};
 
 /// A planned change of the table by a call.
 #[derive(Drop)]

@@ -3,9 +3,8 @@ ghost use Rattle.std.specs.Prelude.{◌≡◌, ◌≢◌, ℕ, true, false, Ok, 
 ghost use Rattle.model.specs.rule.Limits.{IsHost, IsNumber, most_processes, most_descriptions};
 ghost use Rattle.model.specs.rule.Descriptors.{no_processes, after};
 ghost use Rattle.model.specs.rule.Table.{descriptor, closed_if, exited};
-ghost use Rattle.descriptors.specs.code.Rows.{resolved, Refuses};
+ghost use Rattle.descriptors.specs.code.Rows.{resolved, Refuses, begins, CanBegin};
 ghost use Rattle.descriptors.specs.code.Edits.{edited};
-ghost use Rattle.descriptors.specs.code.Calls.{begins, CanBegin};
 ghost use Rattle.fcntl_table.specs.rule.Hosts.{IsKept, process_at, processes_of, table_with, with_host};
 ghost use Rattle.fcntl_table.specs.code.Hosts.{FitsOn};
 
@@ -15,11 +14,7 @@ use descriptors::error::{FdError, ProcessError};
 use descriptors::processes::Processes;
 use indexmap::IndexMap;
 use lock_table::lock_table::LockTable;
-use model::host::Host;
-use model::limits::MOST_NODES;
-use model::op::ProcessCall;
-use model::opened::Opened;
-use model::reply::Reply;
+use model::{Host, MOST_NODES, Opened, ProcessCall, Reply};
 use std::alloc::{AllocError, Global};
 use std::marker::Model;
 

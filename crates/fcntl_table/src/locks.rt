@@ -2,7 +2,7 @@
 ghost use Rattle.std.specs.Prelude.{◌≡◌, MatchResult};
 
 use lock_table::error::LockError;
-use model::reply::Reply;
+use model::Reply;
 use std::alloc::AllocError;
 
 /// The reply that says why the locks are refused.

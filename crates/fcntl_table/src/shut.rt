@@ -8,10 +8,7 @@ ghost use Rattle.fcntl_table.specs.rule.Hosts.{Closes, process_at, shown};
 
 use descriptors::processes::Processes;
 use lock_table::lock_table::LockTable;
-use model::host::Host;
-use model::limits::MOST_DESCRIPTORS;
-use model::opened::Opened;
-use model::owner::{Kind, Owner};
+use model::{Host, Kind, MOST_DESCRIPTORS, Opened, Owner};
 
 // The owner of that kind and number on the host.
 fn owner(host: Host, kind: Kind, number: u16) -> Owner

@@ -2,16 +2,10 @@
 ghost use Rattle.std.specs.Prelude.{◌≡◌, Some, Ok, IfOk};
 ghost use Rattle.model.specs.rule.Limits.{IsNumber, most_descriptions};
 ghost use Rattle.model.specs.rule.Table.{permits, allows, owner_of, target_at};
-ghost use Rattle.fcntl_table.specs.rule.Targets.{IsOwn, IsSpan};
+ghost use Rattle.fcntl_table.specs.rule.Tables.{IsOwn, IsSpan};
 
 use intervals::span::{Span, SpanError};
-use model::access::Access;
-use model::lock_target::LockTarget;
-use model::mode::Mode;
-use model::opened::Opened;
-use model::owner::{Kind, Owner};
-use model::process::Process;
-use model::reply::Reply;
+use model::{Access, Kind, LockTarget, Mode, Opened, Owner, Process, Reply};
 
 // Whether a descriptor with this access may be used for a lock in this mode.
 fn permits(access: Access, mode: Mode) -> bool

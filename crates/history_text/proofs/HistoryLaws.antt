@@ -1,26 +1,83 @@
--- A history that was read.
-use Rattle.std.proofs.Common.{◌≡◌, ℕ, ◌<◌, ◌≤◌, true, false, ⊎_elim, List, [], length, flat_map, take, drop, count_by, sum_by, slice_get, Some, sym, ap, subst, ◌∙◌, arith, append-nil}
+-- Lines that were read, and a history that was read.
+use Rattle.std.proofs.Common.{◌≡◌, ℕ, ◌+◌, ◌≤◌, if◌then◌else◌, List, [], ◌∷◌, ◌++◌, length, flat_map, cond, sym, ap, ◌∙◌, arith, append-nil, append_assoc, length-append, Option, Some, None, IfSome, ◌<◌, true, false, ⊎_elim, drop, count_by, slice_get, subst}
+use Rattle.std.proofs.lemmas.Grind.{flat_map-append}
+use Rattle.std.proofs.lemmas.List.Elements.{All-push, All-weaker}
+use Rattle.std.proofs.lemmas.List.Sums.{sum_by_push}
+use Rattle.texts.specs.rule.LineFeeds.{line_feed}
+use Rattle.texts.specs.rule.Reads.{Lacks}
+use Rattle.history_text.specs.declared.history_reader.HistoryReader.{HistoryReader}
+use Rattle.history_text.specs.declared.rule.Allowed.{Allowed}
+use Rattle.history_text.specs.rule.Histories.{counted, is_call, with_feed, EndWithExits, IsCall, IsFile, IsHistory, IsHistoryOf}
+use Rattle.history_text.specs.code.Readings.{HasRead, IsPaired, IsRead, IsExit, IsLife, AreOwners, AreLosses, IsLoss, AreEndedOf, IsAloneAtEnd, IsCallAtEnd, IsDrop, IsEnded}
 use Rattle.std.specs.List.{All}
-use Rattle.std.proofs.lemmas.List.Elements.{All-weaker}
+use Rattle.history_text.specs.declared.owners.Exit.{Exit}
+use Rattle.history_text.specs.declared.owners.Life.{Life}
+use Rattle.history_text.specs.declared.drops.Losses.{Losses}
+use Rattle.history_text.specs.declared.head.Head.{Head}
+use Rattle.history_text.proofs.FileLaws.{files_extend}
+use Rattle.history_text.proofs.OwnerLaws.{extends_none, one_number, one_to_one}
 use Rattle.std.proofs.lemmas.Option.{slice_get_cases, slice_get_within}
 use Rattle.client_history.specs.declared.act.Act.TheVariants.{Drops}
 use Rattle.client_history.specs.declared.client_call.ClientCall.{ClientCall}
 use Rattle.history_text.specs.declared.written_history.LineCounts.{LineCounts}
 use Rattle.history_text.specs.declared.file_calls.FileCalls.{FileCalls}
 use Rattle.history_text.specs.declared.written_history.WrittenHistory.{WrittenHistory}
-use Rattle.history_text.specs.declared.owners.Life.{Life}
-use Rattle.history_text.specs.declared.history_reader.HistoryReader.{HistoryReader}
-use Rattle.history_text.specs.declared.rule.Allowed.{Allowed}
-use Rattle.history_text.specs.rule.Calls.{counted, is_call, with_feed}
-use Rattle.history_text.specs.code.Drops.{AreEndedOf, IsAloneAtEnd, IsCallAtEnd, IsDrop, IsEnded}
-use Rattle.history_text.specs.rule.Files.{calls_in}
-use Rattle.history_text.specs.rule.Histories.{EndWithExits, IsCall, IsFile, IsHistory, IsHistoryOf}
-use Rattle.history_text.specs.rule.Lives.{AreOwners}
-use Rattle.history_text.specs.rule.Owners.{AreDistinct}
-use Rattle.history_text.specs.rule.Readings.{HasRead}
-use Rattle.history_text.specs.rule.Times.{IsTimed}
+use Rattle.history_text.specs.rule.Owners.{AreDistinct, IsTimed}
 use Rattle.history_text.proofs.Lists.{get_one, of_all}
-use Rattle.history_text.proofs.OwnerLaws.{one_number, one_to_one}
+
+-- there are no more lines than bytes
+pub lines_fit : (lines : List (List ℕ)) (rest : List ℕ) → length lines ≤ length (flat_map with_feed lines ++ rest)
+lines_fit [] rest = omega arith
+lines_fit (line ∷ lines) rest =
+    let shown : (line ++ line_feed ∷ []) ++ flat_map with_feed lines ++ rest ≡ (line ++ line_feed ∷ []) ++ (flat_map with_feed lines ++ rest) = append_assoc (line ++ line_feed ∷ []) (flat_map with_feed lines) rest in
+    omega (arith, lines_fit lines rest, ap length shown, length-append (line ++ line_feed ∷ []) (flat_map with_feed lines ++ rest), length-append line (line_feed ∷ []))
+
+module _ (allowed : Allowed) (text rest : List ℕ) (count : ℕ) (reader : HistoryReader) (was : HasRead allowed text rest count reader) where
+  -- no more lines were counted than the text has bytes
+  pub count_fits : count ≤ length text
+  count_fits = omega (arith, was.count_is, ap length was.parts, lines_fit was.lines rest)
+
+  module _ (line behind : List ℕ) (next : HistoryReader) (lacks : Lacks line_feed line) (parts : rest ≡ line ++ line_feed ∷ behind)
+      (read : IsRead allowed (count + 1) next) (paired : IsPaired next) (more : counted next.counts ≡ counted reader.counts + (if is_call line then 1 else 0)) where
+    -- one more line was read
+    pub has_read_more : HasRead allowed text behind (count + 1) next
+    has_read_more = record {
+      lines = was.lines ++ line ∷ [];
+      parts = was.parts ∙ ap (λ (bs : List ℕ). flat_map with_feed was.lines ++ bs) (parts ∙ sym (append_assoc line (line_feed ∷ []) behind))
+          ∙ sym (append_assoc (flat_map with_feed was.lines) (with_feed line) behind)
+          ∙ ap (λ (bs : List ℕ). bs ++ behind) (sym (flat_map-append with_feed was.lines (line ∷ []) ∙ ap (λ (bs : List ℕ). flat_map with_feed was.lines ++ bs) (append-nil (with_feed line))));
+      single = All-push (Lacks line_feed) was.lines line was.single lacks;
+      count_is = ap (λ (n : ℕ). n + 1) was.count_is ∙ sym (length-append was.lines (line ∷ []));
+      read = read;
+      paired = paired;
+      counted_is = more ∙ ap (λ (n : ℕ). n + (if is_call line then 1 else 0)) was.counted_is ∙ sym (sum_by_push (λ (l : List ℕ). cond (is_call l) 1 0) was.lines line);
+    }
+
+-- a line that is not one of a call changes at most losses
+pub read_other : (allowed : Allowed) (line : ℕ) (old : HistoryReader) (head : Head) → (AreLosses allowed line old.head.losses → AreLosses allowed line head.losses) → IsRead allowed line old → IsRead allowed line (record old { head = head })
+read_other allowed line old head losses read = record { sound = read.sound; lives = read.lives; files = read.files; calls = read.calls; alone = read.alone; losses = losses read.losses }
+
+exit_later : (m n latest : ℕ) → m ≤ n → (exit : Option Exit) → IfSome exit (IsExit m latest) → IfSome exit (IsExit n latest)
+exit_later m n latest le None is = tt
+exit_later m n latest le (Some exit) is = let low = is.line.1 in record { line = (is.line.0, omega arith); begun = is.begun; last = is.last }
+
+losses_later : (allowed : Allowed) (m n : ℕ) → m ≤ n → (losses : Losses) → AreLosses allowed m losses → AreLosses allowed n losses
+losses_later allowed m n le losses are = All-weaker (λ here. All (IsLoss allowed m) here.items) (λ here. All (IsLoss allowed n) here.items)
+    (λ here all. All-weaker (IsLoss allowed m) (IsLoss allowed n) (λ loss is. let low = is.within.1 in record { counts = is.counts; within = (is.within.0, omega arith); timed = is.timed }) here.items all)
+    losses.losses.items are
+
+-- what was read is read of more lines as well
+pub read_later : (allowed : Allowed) (m n : ℕ) → m ≤ n → (reader : HistoryReader) → IsRead allowed m reader → IsRead allowed n reader
+read_later allowed m n le reader read =
+    let lives : List Life = reader.known.owners.lives.items in
+    record {
+      sound = read.sound;
+      lives = All-weaker (IsLife m) (IsLife n) (λ life is. exit_later m n life.latest le life.exit is) lives read.lives;
+      files = files_extend lives lives m n (extends_none lives) le reader.files.items read.files;
+      calls = read.calls;
+      alone = read.alone;
+      losses = losses_later allowed m n le reader.head.losses read.losses;
+    }
 
 module _ (allowed : Allowed) (names : List (List ℕ)) (lives : List Life) (lines : ℕ) (owners : AreOwners names lives) where
   name_at : (number : ℕ) → number < length lives → (name : List ℕ) × (slice_get names number ≡ Some name)

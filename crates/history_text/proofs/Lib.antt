@@ -1,11 +1,5 @@
-mod DropLaws
-mod EndLaws
 mod FileLaws
 mod HistoryLaws
-mod LifeLaws
-mod Lines
+mod JudgedLaws
 mod Lists
-mod NameLaws
 mod OwnerLaws
-mod ReadLaws
-mod Runs

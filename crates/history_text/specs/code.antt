@@ -1,2 +1,1 @@
-pub mod Drops
-pub mod Seconds
+pub mod Readings

@@ -1,10 +1,11 @@
 //! The operations of calls on files, with their replies, as the words of a line say them. A function here that gives
 //! a `Result` answers `Bad` with the first word that may not stand there.
-use crate::error::{BadWord, LineError};
-use crate::line_words::{LineWord, LineWords, next_mode, next_span};
-use crate::machines::{Machine, check_owner};
+use crate::{
+    LineError, LineWord, LineWords, Machine, WRONG_REPLY, check_owner, next_mode, next_span,
+};
+use client_history::ToldLock;
 use intervals::span::Span;
-use model::mode::Mode;
+use model::Mode;
 
 /// The operation of a call on a file.
 #[derive(Clone, Copy)]
@@ -29,15 +30,20 @@ pub(crate) enum Reply {
     Refused,
 }
 
-/// A call on a file: the file's name, the operation, the first word of the reply, if there is one, and the mode, the
-/// bytes and the owner of the lock that the reply names, as far as it does.
+/// An operation on a file, the first word of its reply, if there is one, and the lock that the reply names.
+#[derive(Clone, Copy)]
+pub(crate) struct Asked {
+    pub(crate) operation: Operation,
+    pub(crate) reply: Option<Reply>,
+    pub(crate) told: ToldLock,
+}
+
+/// A call on a file: the file's name, what is asked, without the owner of the lock that the reply names, and that one's
+/// name, if it is told.
 #[derive(Clone, Copy)]
 pub(crate) struct AskedCall<'a> {
     pub(crate) file: &'a str,
-    pub(crate) operation: Operation,
-    pub(crate) reply: Option<Reply>,
-    pub(crate) mode: Option<Mode>,
-    pub(crate) span: Option<Span>,
+    pub(crate) asked: Asked,
     pub(crate) owner: Option<LineWord<'a>>,
 }
 
@@ -48,47 +54,48 @@ pub(crate) fn next_asked<'a>(
     has_end: bool,
     machines: &[Machine],
 ) -> Result<AskedCall<'a>, LineError> {
-    check_operation(verb)?;
+    if !matches!(verb.text, "set" | "wait" | "unlock" | "query" | "close") {
+        return Err(verb.fault("expected `set`, `wait`, `unlock`, `query`, `close` or `exit`"));
+    }
     let file = words.next_word()?.text;
-    let operation = next_operation(verb.text, words)?;
-    let mut asked = AskedCall {
-        file,
-        operation,
-        reply: None,
+    let operation = match next_operation(verb.text, words) {
+        Ok(operation) => operation,
+        Err(error) => return Err(error),
+    };
+    let told = ToldLock {
         mode: None,
         span: None,
         owner: None,
     };
+    let reply = None;
+    let mut asked = Asked {
+        operation,
+        reply,
+        told,
+    };
+    let mut owner = None;
     if let Some(word) = next_reply(words, has_end)? {
         let reply = reply_of(&word)?;
         if !goes_with(reply, &operation) {
-            return Err(word.fault(BadWord::WrongReply));
+            return Err(word.fault(WRONG_REPLY));
         }
         asked.reply = Some(reply);
-        take_lock(&mut asked, reply, words, machines)?;
+        owner = next_lock(&mut asked.told, reply, words, machines)?;
     } else if has_end {
-        return Err(words.fault(BadWord::NoReply));
+        return Err(words.fault("the reply is missing"));
     }
     words.end()?;
-    Ok(asked)
+    Ok(AskedCall { file, asked, owner })
 }
 
 /// Takes the words behind the word `exit`.
 pub(crate) fn end_exit(words: &mut LineWords<'_>, has_end: bool) -> Result<(), LineError> {
     if let Some(word) = next_reply(words, has_end)? {
         if reply_of(&word)? != Reply::Done {
-            return Err(word.fault(BadWord::WrongReply));
+            return Err(word.fault(WRONG_REPLY));
         }
     }
     words.end()
-}
-
-// Refuses a word that is none of an operation on a file.
-fn check_operation(word: &LineWord<'_>) -> Result<(), LineError> {
-    match word.text {
-        "set" | "wait" | "unlock" | "query" | "close" => Ok(()),
-        _ => Err(word.fault(BadWord::UnknownOperation)),
-    }
 }
 
 // Takes the words behind a file: the operation with them.
@@ -97,16 +104,20 @@ fn next_operation(verb: &str, words: &mut LineWords<'_>) -> Result<Operation, Li
         let is_unused = words.skip_word("unused");
         return Ok(Operation::Close { is_unused });
     }
-    if verb == "unlock" {
-        let span = next_span(words)?;
-        return Ok(Operation::Unlock { span });
-    }
-    let mode = next_mode(words)?;
-    let span = next_span(words)?;
-    Ok(match verb {
-        "set" => Operation::Set { mode, span },
-        "wait" => Operation::Wait { mode, span },
-        _ => Operation::Query { mode, span },
+    let mode = if verb == "unlock" {
+        None
+    } else {
+        Some(next_mode(words)?)
+    };
+    let span = match next_span(words) {
+        Ok(span) => span,
+        Err(error) => return Err(error),
+    };
+    Ok(match (verb, mode) {
+        (_, None) => Operation::Unlock { span },
+        ("set", Some(mode)) => Operation::Set { mode, span },
+        ("wait", Some(mode)) => Operation::Wait { mode, span },
+        (_, Some(mode)) => Operation::Query { mode, span },
     })
 }
 
@@ -120,10 +131,10 @@ fn next_reply<'a>(
     }
     let arrow = words.next_word()?;
     if arrow.text != "->" {
-        return Err(arrow.fault(BadWord::NoArrow));
+        return Err(arrow.fault("expected `->`"));
     }
     if !has_end {
-        return Err(arrow.fault(BadWord::ReplyWithoutEnd));
+        return Err(arrow.fault("a call without an end has no reply"));
     }
     let reply = words.next_word()?;
     Ok(Some(reply))
@@ -138,7 +149,9 @@ fn reply_of(word: &LineWord<'_>) -> Result<Reply, LineError> {
         "blocked" => Ok(Reply::Blocked),
         "interrupted" => Ok(Reply::Interrupted),
         "refused" => Ok(Reply::Refused),
-        _ => Err(word.fault(BadWord::UnknownReply)),
+        _ => Err(word.fault(
+            "expected `done`, `again`, `free`, `blocked`, `interrupted` or `refused`",
+        )),
     }
 }
 
@@ -154,25 +167,29 @@ fn goes_with(reply: Reply, operation: &Operation) -> bool {
     }
 }
 
-// Takes the words behind the first word of a reply: the lock that they name, if they do.
-fn take_lock<'a>(
-    asked: &mut AskedCall<'a>,
+// Takes the words behind the first word of a reply: the lock that they name, if they do. Gives the word for its owner,
+// if that is told.
+fn next_lock<'a>(
+    told: &mut ToldLock,
     reply: Reply,
     words: &mut LineWords<'a>,
     machines: &[Machine],
-) -> Result<(), LineError> {
+) -> Result<Option<LineWord<'a>>, LineError> {
     if reply == Reply::Refused {
         words.next_word()?;
     }
     if reply != Reply::Again && reply != Reply::Blocked || !words.has_more() {
-        return Ok(());
+        return Ok(None);
     }
-    asked.mode = Some(next_mode(words)?);
-    asked.span = Some(next_span(words)?);
+    told.mode = Some(next_mode(words)?);
+    match next_span(words) {
+        Ok(span) => told.span = Some(span),
+        Err(error) => return Err(error),
+    }
     let name = words.next_word()?;
-    if name.text != "?" {
-        check_owner(&name, machines)?;
-        asked.owner = Some(name);
+    if name.text == "?" {
+        return Ok(None);
     }
-    Ok(())
+    check_owner(&name, machines)?;
+    Ok(Some(name))
 }

@@ -4,17 +4,12 @@
 ghost use Rattle.std.specs.Prelude.{◌≡◌, ℕ, [], true, None, All, IfSome, OnOk};
 ghost use Rattle.client_history.specs.declared.act.Act.TheVariants.{Drops};
 ghost use Rattle.history_text.specs.declared.rule.Allowed.{Allowed as Rules};
-ghost use Rattle.history_text.specs.code.Drops.{Adds, IsLossOf, with_told};
-ghost use Rattle.history_text.specs.rule.Lives.{AreLives};
-ghost use Rattle.history_text.specs.rule.Losses.{AreLosses, ArePaired, IsLoss};
+ghost use Rattle.history_text.specs.code.Readings.{Adds, IsLossOf, with_told, AreLives, AreLosses, ArePaired, IsLoss};
 
-use crate::file_calls::FileCalls;
-use crate::names::Names;
-use crate::owners::{Exit, Owners, may_begin};
-use client_history::act::Act;
-use client_history::client_call::ClientCall;
+use crate::{Exit, FileCalls, Names, Owners, may_begin};
+use client_history::{Act, ClientCall};
 use indexmap::IndexSet;
-use model::owner::Owner;
+use model::Owner;
 use std::alloc::{AllocError, Global};
 
 /// A loss of the locks of a file: the number of its line, and the times between which each owner lost what it had.

@@ -1,9 +1,9 @@
 //! The calls about one file. A function here that gives a `Result` answers `AllocError` where a request for memory
 //! was refused.
 ghost use Rattle.std.specs.Prelude.{◌≡◌, ◌++◌, ◌∷◌, [], length, OnOk};
-ghost use Rattle.history_text.specs.code.Seconds.{second_step};
+ghost use Rattle.history_text.specs.code.Readings.{second_step};
 
-use client_history::client_call::ClientCall;
+use client_history::ClientCall;
 use std::alloc::{AllocError, Global};
 
 /// The calls about one file that its clients saw, and for each call, at the same index, the number of its line, from

@@ -4,16 +4,10 @@ ghost use Rattle.std.specs.Prelude.{◌≡◌, ◌≤◌, ◌<◌, ◌+◌, ℕ,
 ghost use Rattle.texts.specs.rule.Reads.{IsWithin};
 ghost use Rattle.history_text.specs.declared.owners.Life.{Life};
 ghost use Rattle.history_text.specs.declared.rule.Allowed.{Allowed as Rules};
-ghost use Rattle.history_text.specs.code.Drops.{AreEndedOf};
-ghost use Rattle.history_text.specs.rule.Files.{AreBefore, AreFilesOf, IsAlone, IsCallOf, lines_in};
-ghost use Rattle.history_text.specs.rule.Lives.{AreLives};
-ghost use Rattle.history_text.specs.rule.Losses.{AreLosses, ArePaired};
+ghost use Rattle.history_text.specs.code.Readings.{AreEndedOf, AreBefore, AreFilesOf, IsAlone, IsCallOf, lines_in, AreLives, AreLosses, ArePaired};
 
-use crate::drops::{Losses, add_drops};
-use crate::file_calls::FileCalls;
-use crate::names::Names;
-use crate::owners::Owners;
-use client_history::client_call::ClientCall;
+use crate::{FileCalls, Losses, Names, Owners, add_drops};
+use client_history::ClientCall;
 use std::alloc::{AllocError, Global};
 
 /// Appends a file, if the file of this number is a new one.

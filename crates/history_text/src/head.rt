@@ -1,13 +1,39 @@
-//! The lines of a history that are none of calls: its first line, machines, notes and losses.
+//! The lines of a history that are none of calls: its first line, machines with the owners on them, notes and losses.
 ghost use Rattle.std.specs.Prelude.{◌≡◌, ◌≤◌, [], OnOk};
-ghost use Rattle.history_text.specs.rule.Losses.{AreLosses, ArePaired};
+ghost use Rattle.history_text.specs.code.Readings.{AreLosses, ArePaired};
 
-use crate::drops::{Loss, Losses};
-use crate::error::{BadWord, LineError};
-use crate::line_words::{LineWords, next_end, next_time};
-use crate::machines::{Machine, is_declared};
-use crate::rule::Allowed;
+use crate::{
+    Allowed, LineError, LineWord, LineWords, Loss, Losses, MISSING, NO_HEAD, NO_OWNER, next_end,
+    next_time,
+};
 use std::alloc::Global;
+use texts::text::split_at_first;
+
+/// A machine on which clients ran, and how far its clock may be off, either way, in the unit of the history.
+#[derive(Drop)]
+pub struct Machine {
+    pub name: String,
+    pub skew: u64,
+}
+
+/// Whether one of the machines has the name.
+pub(crate) fn is_declared(machines: &[Machine], name: &str) -> bool {
+    machines.iter().any(|machine| machine.name.as_str() == name)
+}
+
+/// Refuses a word that names no owner. An owner is any word but `?`; where machines are declared, it is one with `@`
+/// and a machine's name behind it.
+pub(crate) fn check_owner(word: &LineWord<'_>, machines: &[Machine]) -> Result<(), LineError> {
+    match split_at_first(word.text, b'@') {
+        Some(("", _)) => Err(word.fault(NO_OWNER)),
+        Some((_, machine)) if !is_declared(machines, machine) => {
+            Err(word.fault("the machine is not declared"))
+        }
+        None if word.text == "?" => Err(word.fault(NO_OWNER)),
+        None if !machines.is_empty() => Err(word.fault("the owner names no machine")),
+        _ => Ok(()),
+    }
+}
 
 /// What lines that are none of calls say: whether the first one was read; the machines; and losses of locks, if the
 /// rules let them count.
@@ -55,7 +81,7 @@ impl Head {
         let word = words.next_word()?;
         if !self.is_read {
             if word.text != "history" {
-                return Err(word.fault(BadWord::NoHead));
+                return Err(word.fault(NO_HEAD));
             }
             self.is_read = true;
             return check_head(&mut words);
@@ -63,23 +89,25 @@ impl Head {
         match word.text {
             "note" => Ok(()),
             "lost" => take_loss(alloc, allowed, line, &mut words, &mut self.losses),
-            "machine" if has_calls => { Err(word.fault(BadWord::LateMachine)) }
+            "machine" if has_calls => {
+                Err(word.fault("a machine is declared before the first call"))
+            }
             "machine" => take_machine(alloc, &mut words, &mut self.machines),
-            "history" => Err(word.fault(BadWord::SecondHead)),
-            "call" => Err(words.fault(BadWord::Missing)),
-            _ => Err(word.fault(BadWord::UnknownLine)),
+            "history" => Err(word.fault("the line `history` stands once, before all others")),
+            "call" => Err(words.fault(MISSING)),
+            _ => Err(word.fault("expected `call`, `machine`, `note` or `lost`")),
         }
     }
 }
 
 // Takes the words `1 clock UNIT`.
 fn check_head(words: &mut LineWords<'_>) -> Result<(), LineError> {
-    words.expect_word("1", BadWord::NoHead)?;
-    words.expect_word("clock", BadWord::NoHead)?;
+    words.expect_word("1", NO_HEAD)?;
+    words.expect_word("clock", NO_HEAD)?;
     let unit = words.next_word()?;
     match unit.text {
         "ns" | "us" | "order" => words.end(),
-        _ => Err(unit.fault(BadWord::UnknownUnit)),
+        _ => Err(unit.fault("expected `ns`, `us` or `order`")),
     }
 }
 
@@ -91,9 +119,9 @@ fn take_machine(
 ) -> Result<(), LineError> {
     let word = words.next_word()?;
     if is_declared(machines, word.text) {
-        return Err(word.fault(BadWord::SecondMachine));
+        return Err(word.fault("the machine is declared before"));
     }
-    words.expect_word("skew", BadWord::NoSkew)?;
+    words.expect_word("skew", "expected `skew`")?;
     let skew = next_time(words)?;
     words.end()?;
     let name = String::from_str(alloc, word.text)?;
@@ -116,11 +144,12 @@ fn take_loss(
     ensures losses { OnOk result (AreLosses allowed line losses.old → AreLosses allowed line losses.new) }
 {
     let begin = next_time(words)?;
-    let end = next_end(words, begin, BadWord::LossEndsBeforeBegin)?;
+    let end = next_end(words, begin, "the loss ends before it begins")?;
     let file = words.next_word()?;
     words.end()?;
-    if allowed.lost_at {
-        losses.push(alloc, file.text, Loss { line, begin, end })?;
+    if !allowed.lost_at {
+        return Ok(());
     }
+    losses.push(alloc, file.text, Loss { line, begin, end })?;
     Ok(())
 }

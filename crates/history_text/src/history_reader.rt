@@ -1,23 +1,14 @@
 //! The reader of a history, line by line.
 ghost use Rattle.std.specs.Prelude.{◌≡◌, ◌≤◌, ◌<◌, ◌+◌, if◌then◌else◌, false, None, OnOk};
-ghost use Rattle.history_text.specs.rule.Calls.{counted, is_call};
-ghost use Rattle.history_text.specs.rule.Files.{AreBefore};
+ghost use Rattle.history_text.specs.rule.Histories.{counted, is_call};
+ghost use Rattle.history_text.specs.code.Readings.{AreBefore, IsRead, IsPaired};
 ghost use Rattle.history_text.specs.rule.Owners.{most_owners, owner_numbered};
-ghost use Rattle.history_text.specs.rule.Readings.{IsRead, IsPaired};
 
-use crate::asked_call::Operation;
-use crate::error::{BadWord, LineError};
-use crate::file_calls::FileCalls;
-use crate::files::{add_file, push_call, push_steps};
-use crate::head::Head;
-use crate::known_names::{CallBody, CallLine, KnownNames};
-use crate::line_words::LineWords;
-use crate::owners::owner_of;
-use crate::rule::Allowed;
-use crate::steps::{Asked, Steps, steps_of};
-use crate::written_history::LineCounts;
-use client_history::act::Act;
-use client_history::client_call::ClientCall;
+use crate::{
+    Allowed, Asked, CallBody, CallLine, FileCalls, Head, KnownNames, LineCounts, LineError,
+    LineWords, NO_HEAD, Operation, Steps, add_file, owner_of, push_call, push_steps, steps_of,
+};
+use client_history::{Act, ClientCall};
 use std::alloc::Global;
 use texts::text::after;
 
@@ -78,7 +69,7 @@ impl HistoryReader {
             return self.head.take(alloc, allowed, line, text, has_calls);
         };
         if !self.head.is_read {
-            return Err(LineWords::of(text).fault(BadWord::NoHead));
+            return Err(LineWords::of(text).fault(NO_HEAD));
         }
         self.take_call(alloc, allowed, line, &mut LineWords::of(rest))
     }
@@ -100,36 +91,41 @@ impl HistoryReader {
         ensures paired { OnOk result (IsPaired self.new) }
         ensures counted { OnOk result (counted self.new.counts ≡ counted self.old.counts + 1) }
     {
+        let machines = &self.head.machines;
         let CallLine {
             owner,
             begin,
             end,
             deed,
-        } = self
-            .known
-            .next_call(alloc, &self.head.machines, line, words)?;
-        match deed {
-            CallBody::Exits => self.counts.exits += 1,
-            CallBody::Asks { file, asked } => {
-                let operation: Operation = asked.operation; // tells the proof the type of a call's operation
-                add_file(alloc, &mut self.files, file)?;
-                match steps_of(&Asked { operation, ..asked }, allowed) {
-                    Steps::None => self.counts.silent += 1,
-                    Steps::One(act) => {
-                        let call = call_of(owner, begin, end, act);
-                        push_call(&mut self.files, file, line, &call)?;
-                        self.counts.calls += 1;
-                    }
-                    Steps::Two(first, second) => {
-                        let first = call_of(owner, begin, end, first);
-                        let second = call_of(owner, begin, end, second);
-                        push_steps(&mut self.files, file, line, &first, &second)?;
-                        self.counts.calls += 1;
-                    }
-                }
+        } = match self.known.next_call(alloc, machines, line, words) {
+            Ok(call) => call,
+            Err(error) => return Err(error),
+        };
+        let CallBody::Asks { file, asked } = deed else {
+            self.counts.exits += 1;
+            return Ok(());
+        };
+        let operation: Operation = asked.operation; // tells the proof the type of a call's operation
+        add_file(alloc, &mut self.files, file)?;
+        match steps_of(&Asked { operation, ..asked }, allowed) {
+            Steps::None => {
+                self.counts.silent += 1;
+                Ok(())
+            }
+            Steps::One(act) => {
+                let call = call_of(owner, begin, end, act);
+                push_call(&mut self.files, file, line, &call)?;
+                self.counts.calls += 1;
+                Ok(())
+            }
+            Steps::Two(first, second) => {
+                let first = call_of(owner, begin, end, first);
+                let second = call_of(owner, begin, end, second);
+                push_steps(&mut self.files, file, line, &first, &second)?;
+                self.counts.calls += 1;
+                Ok(())
             }
         }
-        Ok(())
     }
 }
 

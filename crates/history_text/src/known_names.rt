@@ -1,17 +1,14 @@
 //! The owners and files that the lines of calls read so far name.
 ghost use Rattle.std.specs.Prelude.{◌≡◌, ◌<◌, ℕ, [], length, IfOk, OnOk};
-ghost use Rattle.history_text.specs.rule.Times.{IsTimed};
-ghost use Rattle.history_text.specs.rule.Lives.{HasBegun};
-ghost use Rattle.history_text.specs.rule.Readings.{IsSound, Learns, NamesOf};
+ghost use Rattle.history_text.specs.rule.Owners.{IsTimed};
+ghost use Rattle.history_text.specs.code.Readings.{HasBegun, IsSound, Learns, NamesOf};
 
-use crate::asked_call::{AskedCall, end_exit, next_asked};
-use crate::error::{BadWord, LineError};
-use crate::line_words::{LineWord, LineWords, next_end, next_time};
-use crate::machines::{Machine, check_owner};
-use crate::names::Names;
-use crate::owners::{Exit, Owners, owner_of};
-use crate::steps::Asked;
-use client_history::told_lock::ToldLock;
+use crate::{
+    Asked, AskedCall, Exit, LineError, LineWord, LineWords, Machine, Names, Owners, check_owner,
+    end_exit, next_asked, next_end, next_time, owner_of,
+};
+use client_history::ToldLock;
+use model::Owner;
 use std::alloc::Global;
 
 /// A call as its line says it: the number of its owner, its begin, and its end, if that is known.
@@ -75,13 +72,15 @@ impl KnownNames {
         let name = words.next_word()?;
         check_owner(&name, machines)?;
         let owner = self.caller(alloc, &name, begin)?;
-        let deed = self.next_deed(alloc, machines, owner, Exit { line, begin, end }, words)?;
-        Ok(CallLine {
-            owner,
-            begin,
-            end,
-            deed,
-        })
+        match self.next_deed(alloc, machines, owner, Exit { line, begin, end }, words) {
+            Ok(deed) => Ok(CallLine {
+                owner,
+                begin,
+                end,
+                deed,
+            }),
+            Err(error) => Err(error),
+        }
     }
 
     // The number of the owner that the word names, which begins a call at that time.
@@ -132,44 +131,47 @@ impl KnownNames {
             return Ok(CallBody::Exits);
         }
         match next_asked(&word, words, exit.end.is_some(), machines) {
-            Ok(asked) => self.asks(alloc, &asked),
+            Ok(call) => self.asks(alloc, &call),
             Err(error) => Err(error),
         }
     }
 
     // What a call on a file is about.
-    fn asks(&mut self, alloc: Global, asked: &AskedCall<'_>) -> Result<CallBody, LineError>
+    fn asks(&mut self, alloc: Global, call: &AskedCall<'_>) -> Result<CallBody, LineError>
         requires { IsSound self.old }
         ensures learns { OnOk result ((line : ℕ) → Learns line self.old self.new) }
         ensures files { IfOk result (λ deed. NamesOf deed (length self.old.files) (length self.new.files)) }
     {
-        let file = self.files.number_of(alloc, asked.file)?;
-        let told = self.told(alloc, asked)?;
-        let asked = Asked {
-            operation: asked.operation,
-            reply: asked.reply,
-            told,
-        };
-        Ok(CallBody::Asks { file, asked })
+        let file = self.files.number_of(alloc, call.file)?;
+        match self.told(alloc, &call.owner) {
+            Ok(owner) => {
+                let told = ToldLock {
+                    owner,
+                    ..call.asked.told
+                };
+                let asked = Asked { told, ..call.asked };
+                Ok(CallBody::Asks { file, asked })
+            }
+            Err(error) => Err(error),
+        }
     }
 
-    // What the reply to a call says of a lock.
-    fn told(&mut self, alloc: Global, asked: &AskedCall<'_>) -> Result<ToldLock, LineError>
+    // The owner that the reply to a call names, if it does.
+    fn told(
+        &mut self,
+        alloc: Global,
+        name: &Option<LineWord<'_>>,
+    ) -> Result<Option<Owner>, LineError>
         requires { IsSound self.old }
         ensures learns { OnOk result ((line : ℕ) → Learns line self.old self.new) }
         ensures files { self.new.files ≡ self.old.files }
     {
-        let (mode, span) = (asked.mode, asked.span);
-        match &asked.owner {
+        match name {
             Some(name) => {
                 let number = self.named_owner(alloc, name)?;
-                let owner = Some(owner_of(number));
-                Ok(ToldLock { mode, span, owner })
+                Ok(Some(owner_of(number)))
             }
-            None => {
-                let owner = None;
-                Ok(ToldLock { mode, span, owner })
-            }
+            None => Ok(None),
         }
     }
 }
@@ -181,6 +183,6 @@ fn call_end(words: &mut LineWords<'_>, begin: u64) -> Result<Option<u64>, LineEr
     if words.skip_word("-") {
         return Ok(None);
     }
-    let end = next_end(words, begin, BadWord::EndsBeforeBegin)?;
+    let end = next_end(words, begin, "the call ends before it begins")?;
     Ok(Some(end))
 }

@@ -2,9 +2,9 @@
 //! `Bad` with the first word that may not stand there.
 ghost use Rattle.std.specs.Prelude.{◌≤◌, IfOk};
 
-use crate::error::{BadWord, LineError};
-use intervals::span::{GREATEST, Span};
-use model::mode::Mode;
+use crate::error::{LineError, MISSING};
+use intervals::span::{GREATEST, Span, SpanError};
+use model::Mode;
 use texts::number::{number_of, offset_of};
 use texts::text::split_field;
 use texts::words::Named;
@@ -18,7 +18,7 @@ pub(crate) struct LineWord<'a> {
 
 impl LineWord<'_> {
     /// The error that the word may not stand there, for this reason.
-    pub(crate) fn fault(&self, reason: BadWord) -> LineError {
+    pub(crate) fn fault(&self, reason: &'static str) -> LineError {
         LineError::Bad(self.left, reason)
     }
 }
@@ -40,23 +40,32 @@ impl<'a> LineWords<'a> {
         self.rest.is_some()
     }
 
-    /// Takes the next word.
-    pub(crate) fn next_word(&mut self) -> Result<LineWord<'a>, LineError> {
+    // The next word, or an empty one, and what stands behind it.
+    fn split(&self) -> (&'a str, Option<&'a str>) {
         let line = self.rest.unwrap_or("");
-        let (text, rest) = match split_field(line) {
+        match split_field(line) {
             Some((text, rest)) => (text, Some(rest)),
             None => (line, None),
-        };
-        if text.is_empty() {
-            return Err(self.fault(BadWord::Missing));
         }
+    }
+
+    /// Takes the next word.
+    pub(crate) fn next_word(&mut self) -> Result<LineWord<'a>, LineError> {
+        let (text, rest) = self.split();
+        if text.is_empty() {
+            return Err(self.fault(MISSING));
+        }
+        let left = self.rest.unwrap_or("").len();
         self.rest = rest;
-        let left = line.len();
         Ok(LineWord { text, left })
     }
 
     /// Takes the next word, which has to be this one; a reason says so.
-    pub(crate) fn expect_word(&mut self, expected: &str, reason: BadWord) -> Result<(), LineError> {
+    pub(crate) fn expect_word(
+        &mut self,
+        expected: &str,
+        reason: &'static str,
+    ) -> Result<(), LineError> {
         let word = self.next_word()?;
         if word.text == expected {
             Ok(())
@@ -67,30 +76,25 @@ impl<'a> LineWords<'a> {
 
     /// Takes the next word if it is this one. Answers whether it was.
     pub(crate) fn skip_word(&mut self, expected: &str) -> bool {
-        let Some(line) = self.rest else {
-            return false;
-        };
-        let (text, rest) = match split_field(line) {
-            Some((text, rest)) => (text, Some(rest)),
-            None => (line, None),
-        };
-        if text == expected {
+        let (text, rest) = self.split();
+        let is_this = self.has_more() && text == expected;
+        if is_this {
             self.rest = rest;
         }
-        text == expected
+        is_this
     }
 
     /// Checks that there is no next word.
     pub(crate) fn end(&self) -> Result<(), LineError> {
         if self.has_more() {
-            Err(self.fault(BadWord::MoreWords))
+            Err(self.fault("expected the end of the line"))
         } else {
             Ok(())
         }
     }
 
     /// The error that the line may not go on like this behind the words that were taken.
-    pub(crate) fn fault(&self, reason: BadWord) -> LineError {
+    pub(crate) fn fault(&self, reason: &'static str) -> LineError {
         LineError::Bad(self.rest.unwrap_or("").len(), reason)
     }
 }
@@ -108,7 +112,7 @@ pub(crate) fn next_time(words: &mut LineWords<'_>) -> Result<u64, LineError> {
 pub(crate) fn next_end(
     words: &mut LineWords<'_>,
     begin: u64,
-    reason: BadWord,
+    reason: &'static str,
 ) -> Result<u64, LineError>
     ensures { IfOk result (λ end. begin ≤ end) }
 {
@@ -125,7 +129,7 @@ pub(crate) fn next_mode(words: &mut LineWords<'_>) -> Result<Mode, LineError> {
     let word = words.next_word()?;
     match Mode::of_word(word.text) {
         Some(mode) => Ok(mode),
-        None => Err(word.fault(BadWord::UnknownMode)),
+        None => Err(word.fault("expected `read` or `write`")),
     }
 }
 
@@ -137,7 +141,10 @@ pub(crate) fn next_span(words: &mut LineWords<'_>) -> Result<Span, LineError> {
     let len = offset_in(&second)?;
     match Span::from_flock(start, len) {
         Ok(span) => Ok(span),
-        Err(error) => Err(LineError::Bad(first.left, BadWord::NoBytes(error))),
+        Err(SpanError::Invalid) => Err(first.fault("the segment begins before byte 0")),
+        Err(SpanError::Overflow) => {
+            Err(first.fault("the segment ends past the greatest offset"))
+        }
     }
 }
 
@@ -153,10 +160,10 @@ fn offset_in(word: &LineWord<'_>) -> Result<i64, LineError> {
 }
 
 // The reason why a word was not read as a number.
-fn unread_number(word: &str) -> BadWord {
+fn unread_number(word: &str) -> &'static str {
     if !word.starts_with('0') && word.bytes().all(|byte| byte.is_ascii_digit()) {
-        BadWord::TooLarge
+        "the number is past its limit"
     } else {
-        BadWord::NotANumber
+        "expected a whole number"
     }
 }

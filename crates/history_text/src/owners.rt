@@ -1,14 +1,11 @@
 //! The owners that lines name, with their lives.
 ghost use Rattle.std.specs.Prelude.{◌≡◌, ◌≢◌, ◌≤◌, ◌<◌, ◌+◌, ℕ, [], length, Some, IfOk, IfSome, IsTrue, MatchOption, OnOk, ◌↔◌};
 ghost use Rattle.texts.specs.rule.Reads.{IsWithin};
-ghost use Rattle.history_text.specs.rule.Lives.{AreLives, AreOwners, Extends, Grows, HasBegun, HasExit, HasLife, IsLife};
-ghost use Rattle.history_text.specs.rule.Owners.{owner_numbered, most_owners};
-ghost use Rattle.history_text.specs.rule.Times.{IsTimed};
+ghost use Rattle.history_text.specs.code.Readings.{AreLives, AreOwners, Extends, Grows, HasBegun, HasExit, HasLife, IsLife};
+ghost use Rattle.history_text.specs.rule.Owners.{owner_numbered, most_owners, IsTimed};
 
-use crate::error::{BadWord, LineError};
-use crate::line_words::LineWord;
-use crate::names::Names;
-use model::owner::{Kind, Owner};
+use crate::{LineError, LineWord, Names};
+use model::{Kind, Owner};
 use std::alloc::{AllocError, Global};
 
 // The number of owners that can be told apart.
@@ -47,13 +44,13 @@ impl Life {
     }
 
     // The life with a call that begins at that time; else the reason why it may not.
-    fn with_call(&self, begin: u64) -> Result<Life, BadWord>
+    fn with_call(&self, begin: u64) -> Result<Life, &'static str>
         ensures grows { IfOk result (Grows self.now) }
         ensures begun { IfOk result (λ life. begin ≤ life.latest) }
         ensures life { IfOk result (λ life. (lines : ℕ) → IsLife lines self.now → IsLife lines life) }
     {
         if !may_begin(self.exit, begin) {
-            return Err(BadWord::BehindExit);
+            return Err("the call begins behind the end of its owner's exit");
         }
         Ok(Life {
             latest: self.latest.max(begin),
@@ -62,17 +59,17 @@ impl Life {
     }
 
     // The life with this exit, whose begin is counted with the calls; else the reason why it may not stand there.
-    fn with_exit(&self, exit: Exit) -> Result<Life, BadWord>
+    fn with_exit(&self, exit: Exit) -> Result<Life, &'static str>
         requires { exit.begin ≤ self.now.latest }
         ensures grows { IfOk result (Grows self.now) }
         ensures latest { IfOk result (λ life. life.latest ≡ self.now.latest) }
         ensures life { IfOk result (λ life. (lines : ℕ) → IsWithin 1 lines exit.line → IsLife lines life) }
     {
         if self.exit.is_some() {
-            return Err(BadWord::SecondExit);
+            return Err("the owner has another exit");
         }
         if !is_timed(self.latest, exit.end) {
-            return Err(BadWord::EarlyExit);
+            return Err("the exit ends before a call of its owner begins");
         }
         Ok(Life {
             latest: self.latest,
@@ -138,7 +135,7 @@ impl Owners {
     {
         let number = self.names.number_of(alloc, word.text)?;
         if number >= MOST_OWNERS {
-            return Err(word.fault(BadWord::TooManyOwners));
+            return Err(word.fault("the history has too many owners"));
         }
         if number == self.lives.len() {
             push_life(&mut self.lives)?;
@@ -147,7 +144,7 @@ impl Owners {
     }
 
     /// Notes that the owner begins a call at that time; else says why it may not.
-    pub(crate) fn begin_call(&mut self, number: usize, begin: u64) -> Result<(), BadWord>
+    pub(crate) fn begin_call(&mut self, number: usize, begin: u64) -> Result<(), &'static str>
         requires owners { AreOwners self.old.names self.old.lives.items }
         requires within { number < length self.old.lives.items }
         ensures owners { OnOk result (AreOwners self.new.names self.new.lives.items) }
@@ -161,7 +158,7 @@ impl Owners {
     }
 
     /// Notes the exit of the owner, a call that it has begun; else says why it may not stand there.
-    pub(crate) fn exit(&mut self, number: usize, exit: Exit) -> Result<(), BadWord>
+    pub(crate) fn exit(&mut self, number: usize, exit: Exit) -> Result<(), &'static str>
         requires owners { AreOwners self.old.names self.old.lives.items }
         requires begun { HasBegun self.old.lives.items number exit.begin }
         ensures owners { OnOk result (AreOwners self.new.names self.new.lives.items) }

@@ -1,19 +1,16 @@
 //! The reading of a history from its text.
 ghost use Rattle.std.specs.Prelude.{[], IfOk};
 ghost use Rattle.history_text.specs.rule.Histories.{IsHistoryOf};
-ghost use Rattle.history_text.specs.rule.Readings.{HasRead};
+ghost use Rattle.history_text.specs.code.Readings.{HasRead};
 
-use crate::error::{BadWord, LineError, ReadError};
-use crate::files::end_files;
-use crate::head::Head;
-use crate::history_reader::HistoryReader;
-use crate::known_names::KnownNames;
-use crate::rule::Allowed;
-use crate::written_history::WrittenHistory;
+use crate::{
+    Allowed, Head, HistoryReader, JudgeError, KnownNames, LineError, NO_HEAD, WrittenHistory,
+    end_files,
+};
 use std::alloc::Global;
 use texts::text::split_at_first;
 
-/// The history that the text writes. Each line ends with a line feed, the last one too; the words of a line have one space
+/// The history that the text writes, which is the content of the file at this path. Each line ends with a line feed, the last one too; the words of a line have one space
 /// between them. Empty lines and lines that begin with `#` are passed. The first other line is `history 1 clock UNIT`, with UNIT
 /// `ns`, `us` or `order`; none of the others is. They are, in any order:
 ///
@@ -47,13 +44,18 @@ use texts::text::split_at_first;
 /// Contracts say of a history what holds of every one. That it has the calls of the text is tested.
 ///
 /// # Errors
-/// `BadLine` with the first line that may not stand there; where all may and the first one is missing, with the line after the
-/// last. `NoMemory` where a request for memory was refused before a bad line was seen.
-pub fn read(alloc: Global, text: &str, allowed: Allowed) -> Result<WrittenHistory, ReadError>
+/// `Bad` with the first line that may not stand there, and the first word in it that may not; where all may and the first one is
+/// missing, with the line after the last. `NoMemory` where a request for memory was refused before a bad line was seen.
+pub(crate) fn read(
+    alloc: Global,
+    path: &str,
+    text: &str,
+    allowed: Allowed,
+) -> Result<WrittenHistory, JudgeError>
     ensures { IfOk result (IsHistoryOf allowed text.now) }
 {
     let mut reader = HistoryReader::new(alloc);
-    let count = read_lines(alloc, &mut reader, text, allowed)?;
+    let count = read_lines(alloc, &mut reader, path, text, allowed)?;
     let HistoryReader {
         head,
         known,
@@ -61,7 +63,8 @@ pub fn read(alloc: Global, text: &str, allowed: Allowed) -> Result<WrittenHistor
         counts,
     } = reader;
     if !head.is_read {
-        return Err(LineError::Bad(0, BadWord::NoHead).at(count.saturating_add(1), ""));
+        let missing = LineError::Bad(0, NO_HEAD);
+        return Err(missing.at(alloc, path, count.saturating_add(1), "")?);
     }
     end_files(alloc, &mut files, &known.files, &known.owners, &head.losses)?;
     let Head { machines, .. } = head;
@@ -82,9 +85,10 @@ pub fn read(alloc: Global, text: &str, allowed: Allowed) -> Result<WrittenHistor
 fn read_lines(
     alloc: Global,
     reader: &mut HistoryReader,
+    path: &str,
     text: &str,
     allowed: Allowed,
-) -> Result<u64, ReadError>
+) -> Result<u64, JudgeError>
     requires { HasRead allowed text.now text.now 0 reader.old }
     ensures { IfOk result (λ count. HasRead allowed text.now [] count reader.new) }
 {
@@ -93,11 +97,12 @@ fn read_lines(
     while !rest.is_empty() {
         let number = count + 1;
         let Some((line, behind)) = split_at_first(rest, b'\n') else {
-            return Err(LineError::Bad(0, BadWord::Unfinished).at(number, rest));
+            let unfinished = LineError::Bad(0, "no line feed stands at the end of the last line");
+            return Err(unfinished.at(alloc, path, number, rest)?);
         };
         match reader.take(alloc, allowed, number, line) {
             Ok(()) => {}
-            Err(error) => return Err(error.at(number, line)),
+            Err(error) => return Err(error.at(alloc, path, number, line)?),
         }
         rest = behind;
         count = number;

@@ -1,4 +1,5 @@
 //! Rules: the known ways in which lock managers differ from one table of record locks.
+use std::alloc::{AllocError, Global};
 
 /// The set of rules by which a lock manager may differ from one table: those whose fields are true.
 #[derive(Clone, Copy, Debug, PartialEq, Eq)]
@@ -15,4 +16,26 @@ pub struct Allowed {
     /// Where a line `lost BEGIN END F` stands, each owner that has a call in F loses all that it has there at some time of its own
     /// from BEGIN to END.
     pub lost_at: bool,
+}
+
+impl Allowed {
+    /// The words of the rules that are allowed, in the order in which they are listed.
+    ///
+    /// # Errors
+    /// `AllocError` where a request for memory was refused.
+    pub(crate) fn words(&self, alloc: Global) -> Result<Vec<&'static str>, AllocError> {
+        let mut words = Vec::new(alloc);
+        for (is_allowed, word) in &[
+            (self.wait_drops, "wait-drops"),
+            (self.close_own_descriptor, "close-own-descriptor"),
+            (self.no_query, "no-query"),
+            (self.stale_read_denial, "stale-read-denial"),
+            (self.lost_at, "lost-at"),
+        ] {
+            if *is_allowed {
+                words.push(*word)?;
+            }
+        }
+        Ok(words)
+    }
 }

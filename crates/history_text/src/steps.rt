@@ -1,20 +1,10 @@
 //! The steps of calls: what each did to locks, where a lock manager may differ from one table.
 ghost use Rattle.std.specs.Prelude.{◌≡◌, false};
-ghost use Rattle.history_text.specs.rule.Readings.{IsWhole};
+ghost use Rattle.history_text.specs.code.Readings.{IsWhole};
 
-use crate::asked_call::{Operation, Reply};
-use crate::rule::Allowed;
-use client_history::act::Act;
-use client_history::told_lock::ToldLock;
-use model::mode::Mode;
-
-/// An operation on a file, the first word of its reply, if there is one, and the lock that the reply names.
-#[derive(Clone, Copy)]
-pub(crate) struct Asked {
-    pub(crate) operation: Operation,
-    pub(crate) reply: Option<Reply>,
-    pub(crate) told: ToldLock,
-}
+use crate::{Allowed, Asked, Operation, Reply};
+use client_history::Act;
+use model::Mode;
 
 /// The steps of a call on the locks of its file, as far as its reply says: none, one or two acts.
 #[derive(Clone, Copy)]

@@ -2,11 +2,8 @@
 ghost use Rattle.std.specs.Prelude.{◌≡◌, ℕ, List, All, IsTrue, ◌↔◌, MatchOption};
 ghost use Rattle.history_text.specs.rule.Owners.{IsNamed};
 
-use crate::file_calls::FileCalls;
-use crate::machines::Machine;
-use crate::names::Names;
-use crate::owners::number_of;
-use model::owner::Owner;
+use crate::{FileCalls, Machine, Names, number_of};
+use model::Owner;
 
 /// The numbers of lines of calls in a history: of calls that stand in a file, of exits, and of calls that say nothing
 /// of locks, as those that were interrupted or refused, and queries without a reply.
@@ -37,6 +34,11 @@ impl WrittenHistory {
     {
         let number = number_of(owner)?;
         self.owners.get(number)
+    }
+
+    /// The name of the file with this index, or `?`.
+    pub(crate) fn name_of_file(&self, file: usize) -> &str {
+        self.names.get(file).unwrap_or("?")
     }
 
     /// Whether the times of the history are of one clock: no machine's clock is off.

@@ -1,13 +1,10 @@
 -- The kinds of events, by the words with which their texts begin.
 use Rattle.std.proofs.Common.{◌≡◌, true, ℕ, List, [], ◌∷◌, inl, inr, refl, codes}
-use Rattle.messages.specs.rule.Versions.{may_rebuild}
+use Rattle.messages.specs.rule.Shapes.{may_rebuild}
 use Rattle.messages.specs.declared.version.Version.{Version}
 use Rattle.texts.proofs.FirstWords.{BeginsWithWord}
-use Rattle.message_text.proofs.AreTexts.{AreTexts, both, where_so}
-use Rattle.message_text.proofs.FieldTexts.{file, pid}
-use Rattle.message_text.proofs.MessageKinds.{message}
-use Rattle.message_text.proofs.NameTexts.{call, holder, server}
-use Rattle.message_text.proofs.Variants.{Variant, of_variants, variant}
+use Rattle.message_text.proofs.NameTexts.{AreTexts, both, where_so, call, holder, server, Variant, of_variants, variant}
+use Rattle.message_text.proofs.MessageKinds.{file, pid, message}
 use Rattle.lockscript.proofs.OperationKinds.{op}
 use Rattle.journal_text.specs.declared.named_event.NamedEvent.TheVariants.{Call, Deliver, Interrupt, Retry, Resend, Declare, Restart, Learn, FailServer, StartServer}
 use Rattle.journal_text.specs.rule.Events.{IsServedEvent, named_text}

@@ -7,8 +7,7 @@ use Rattle.messages.specs.rule.Shapes.{IsShape, ShapeFields}
 use Rattle.messages.specs.declared.version.Version.{Version}
 use Rattle.messages.specs.declared.version.Version.TheVariants.{First, Second}
 use Rattle.texts.specs.rule.Reads.{Reads}
-use Rattle.message_text.proofs.AreTexts.{AreTexts, has_no_feed}
-use Rattle.message_text.proofs.Variants.{Variant, is_of, none-of, of_variants, variant}
+use Rattle.message_text.proofs.NameTexts.{AreTexts, has_no_feed, Variant, is_of, none-of, of_variants, variant}
 use Rattle.lockscript.specs.rule.Scripts.{IsShapeOf, counts_text}
 use Rattle.lockscript.proofs.Clusters.{IsCounts, counts-fit, counts-parts, counts_of, shape_counts, shape_with}
 use Rattle.journal_text.specs.rule.Journals.{head_front, head_text}

@@ -13,15 +13,13 @@ use Rattle.model.specs.declared.op.ProcessCall.TheVariants.{Spawn, Fork, Open, D
 use Rattle.model.specs.declared.reply.Reply.{Reply}
 use Rattle.model.specs.rule.Limits.{IsCall, IsHost, IsNumber, most_nodes, most_processes}
 use Rattle.messages.specs.rule.Entries.{EntryFields, NamesItsCall, NamesItsIncarnation}
-use Rattle.messages.specs.rule.Epochs.{IsCommand}
+use Rattle.messages.specs.rule.Shapes.{IsCommand, IsShape, ShapeFields, most_files, may_rebuild}
 use Rattle.messages.specs.rule.Messages.{addressee, greatest_number, is_among, is_within}
-use Rattle.messages.specs.rule.Shapes.{IsShape, ShapeFields, most_files}
 use Rattle.messages.specs.declared.event.Event.{Event}
 use Rattle.messages.specs.declared.event.Event.TheVariants.{AtNode, AtServer, Deliver, Member}
 use Rattle.messages.specs.declared.event.NodeInput.TheVariants.{Call, Interrupt, Retry}
 use Rattle.messages.specs.declared.event.ServerInput.TheVariants.{Resend, Learn}
 use Rattle.messages.specs.declared.event.MemberEvent.TheVariants.{Declare, Restart, FailServer, StartServer}
-use Rattle.messages.specs.rule.Versions.{may_rebuild}
 use Rattle.messages.specs.declared.message.Message.{Message}
 use Rattle.messages.specs.declared.message.Message.TheVariants as message
 use Rattle.messages.specs.declared.version.Version.{Version}
@@ -44,7 +42,7 @@ use Rattle.journal_text.specs.rule.Journals.{journal_text}
 use Rattle.journal_text.specs.rule.Lines.{IsServedLine}
 use Rattle.journal_text.specs.code.OneText.{IsServedJournal}
 use Rattle.journal_text.specs.rule.Readings.{WritesJournal, answer_lines, entry_in, entry_lines, lines_of}
-use Rattle.message_text.specs.rule.Served.{IsCommandNumber, IsServedMessage}
+use Rattle.message_text.specs.rule.Texts.{IsCommandNumber, IsServedMessage}
 use Rattle.journal_text.proofs.Printed.{read-printed}
 
 within : (few most n : ℕ) → few ≤ most → is_within few n ≡ true → IsNumber most n

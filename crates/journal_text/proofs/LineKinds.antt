@@ -3,10 +3,8 @@ use Rattle.std.proofs.Common.{ℕ, List, [], ◌∷◌, inl, inr, refl, arith, c
 use Rattle.std.proofs.lemmas.Fmt.{decimal_injective}
 use Rattle.messages.specs.declared.version.Version.{Version}
 use Rattle.texts.proofs.FirstWords.{BeginsWithWord}
-use Rattle.message_text.proofs.AreTexts.{AreFields, AreTexts, both, number, up_to}
+use Rattle.message_text.proofs.NameTexts.{AreFields, AreTexts, both, number, up_to, call, Variant, of_variants, variant}
 use Rattle.message_text.proofs.MessageKinds.{message}
-use Rattle.message_text.proofs.NameTexts.{call}
-use Rattle.message_text.proofs.Variants.{Variant, of_variants, variant}
 use Rattle.journal_text.specs.declared.lines.JournalLine.TheVariants.{Entry, Answer, Send, End}
 use Rattle.journal_text.specs.rule.Lines.{IsCount, IsPosition, IsServedLine, line_text}
 use Rattle.journal_text.proofs.EventKinds.{event}

@@ -10,7 +10,7 @@ use Rattle.messages.specs.rule.Entries.{EntryFields}
 use Rattle.messages.specs.rule.Shapes.{ShapeFields}
 use Rattle.messages.specs.declared.message.Message.{Message}
 use Rattle.messages.specs.declared.version.Version.{Version}
-use Rattle.message_text.specs.rule.Names.{call_text}
+use Rattle.message_text.specs.rule.Texts.{call_text}
 use Rattle.lockscript.specs.rule.Texts.{reply_text}
 use Rattle.lockscript.proofs.Feeds.{none_is-line_feeds}
 use Rattle.lockscript.proofs.Passes.{IsSingle, ended}

@@ -4,9 +4,8 @@ use Rattle.model.specs.declared.reply.Reply.TheVariants.{Done, Fd, Again, Free, 
 use Rattle.texts.proofs.FirstWords.{BeginsWithWord}
 use Rattle.lockscript.specs.rule.Texts.{reply_text}
 use Rattle.lockscript.proofs.FieldTexts.{fd, nothing}
-use Rattle.message_text.proofs.AreTexts.{AreTexts}
-use Rattle.message_text.proofs.SpanParts.{lock}
-use Rattle.message_text.proofs.Variants.{Variant, of_variants, variant}
+use Rattle.message_text.proofs.NameTexts.{AreTexts, Variant, of_variants, variant}
+use Rattle.message_text.proofs.MessageKinds.{lock}
 use Rattle.journal_text.specs.rule.Served.{IsServedReply}
 
 abbrev ReplyKind : Type 1

@@ -13,13 +13,9 @@ ghost use Rattle.journal_text.specs.rule.Readings.{entry_in};
 use crate::lines::JournalLine;
 use crate::named_entry::NamedEntry;
 use crate::sink::Sink;
-use message_text::written_message::WrittenMessage;
-use messages::entry::Entry;
-use messages::kept_reply::KeptReply;
-use messages::outcome::Outcome;
-use messages::sends::Sends;
-use model::call::CallId;
-use model::reply::Reply;
+use message_text::WrittenMessage;
+use messages::{Entry, KeptReply, Outcome, Sends};
+use model::{CallId, Reply};
 use std::alloc::{AllocError, Global};
 use std::marker::Model;
 

@@ -1,9 +1,9 @@
 //! Reads the events of journals from their texts.
 ghost use Rattle.std.specs.Prelude.{◌≡◌, true};
-ghost use Rattle.messages.specs.rule.Versions.{may_rebuild};
+ghost use Rattle.messages.specs.rule.Shapes.{may_rebuild};
 ghost use Rattle.texts.specs.rule.Reads.{Reads};
-ghost use Rattle.message_text.specs.rule.Names.{server_text};
-ghost use Rattle.message_text.specs.code.Parts.{AreServerParts};
+ghost use Rattle.message_text.specs.rule.Texts.{server_text};
+ghost use Rattle.message_text.specs.code.Reports.{AreServerParts};
 ghost use Rattle.journal_text.specs.rule.Events.{IsServedEvent, named_text};
 
 use crate::named_event::NamedEvent;
@@ -11,10 +11,7 @@ use crate::named_event::NamedEvent::{
     Call, Declare, Deliver, FailServer, Interrupt, Learn, Resend, Restart, Retry, StartServer,
 };
 use crate::operands::{CallFields, LearnFields, ProcessFields};
-use message_text::edition::Edition;
-use message_text::message::message_in;
-use message_text::names::{HostName, server_of};
-use message_text::numbers::FileField;
+use message_text::{Edition, FileField, HostName, message_in, server_of};
 use texts::text::{Text, split_field};
 
 /// The event, with the names in it, whose text in the version of `V` this is.

@@ -4,12 +4,9 @@ ghost use Rattle.std.specs.Prelude.{All};
 ghost use Rattle.journal_text.specs.code.Fits.{FitsEntry, FitsEvent, FitsMessage, FitsOp};
 ghost use Rattle.journal_text.specs.rule.Served.{IsServedReply};
 
-use message_text::fits::{call_fits, lock_fits, message_fits};
-use messages::entry::Entry;
-use messages::event::{Event, NodeInput, ServerInput};
-use messages::shared_message::SharedMessage;
-use model::op::Op;
-use model::reply::Reply;
+use message_text::{call_fits, lock_fits, message_fits};
+use messages::{Entry, Event, NodeInput, ServerInput, SharedMessage};
+use model::{Op, Reply};
 
 fn reply_fits(reply: &Reply)
     ensures { IsServedReply reply.now }

@@ -4,9 +4,8 @@ ghost use Rattle.messages.specs.rule.Shapes.{IsShape};
 ghost use Rattle.texts.specs.rule.Reads.{Reads};
 ghost use Rattle.journal_text.specs.rule.Journals.{head_front, head_text};
 
-use lockscript::cluster_line::shape_operands;
-use messages::shape::Shape;
-use messages::version::Version;
+use lockscript::shape_operands;
+use messages::{Shape, Version};
 use texts::text::after;
 
 /// The text with which the first line of a journal of this version begins.

@@ -6,16 +6,10 @@ ghost use Rattle.journal_text.specs.rule.Journals.{end_text, entries_text, entry
 
 use crate::head::head_front;
 use crate::writing::push_event;
-use lockscript::replies::push_reply;
-use message_text::names::push_call;
-use message_text::writing::push_message;
-use messages::entry::Entry;
-use messages::shape::Shape;
-use messages::shared_message::SharedMessage;
-use messages::version::Version;
-use model::call::CallId;
-use model::policy::Policy;
-use model::reply::Reply;
+use lockscript::push_reply;
+use message_text::{push_call, push_message};
+use messages::{Entry, Shape, SharedMessage, Version};
+use model::{CallId, Policy, Reply};
 use std::alloc::{AllocError, Global};
 use std::fmt::Write;
 use texts::words::Named;

@@ -12,10 +12,8 @@ ghost use Rattle.journal_text.specs.rule.Readings.{IsBadLine};
 use crate::head::head_of;
 use crate::journal_place::JournalPlace;
 use crate::lines::{JournalLine, line_of};
-use lockscript::error::ParseError;
-use lockscript::lines::split_line;
-use messages::shape::Shape;
-use messages::version::Version;
+use lockscript::{ParseError, split_line};
+use messages::{Shape, Version};
 
 /// The rest of a journal, the number of its lines that were read, and the place behind these lines.
 #[derive(Drop)]

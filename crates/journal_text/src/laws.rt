@@ -4,7 +4,7 @@ ghost use Rattle.journal_text.specs.rule.Readings.{WritesJournal};
 ghost use Rattle.journal_text.specs.code.OneText.{EachTextHasOneValue, EveryJournalIsRead, EveryTextHasOneReading};
 
 use crate::fits::entries_fit;
-use cluster_core::journal::Journal;
+use cluster_core::Journal;
 
 /// Two values within their limits that have one text are equal, be they messages, events, replies,
 /// lines of journals, or whole journals.

@@ -6,13 +6,11 @@ ghost use Rattle.journal_text.specs.rule.Lines.{IsServedLine, line_text};
 use crate::events::event_in;
 use crate::named_event::NamedEvent;
 use crate::operands::AnswerFields;
-use message_text::edition::{Edition, FirstEdition, SecondEdition};
-use message_text::message::message_in;
-use message_text::numbers::{CountField, Counted};
-use message_text::written_message::WrittenMessage;
-use messages::version::Version;
-use model::call::CallId;
-use model::reply::Reply;
+use message_text::{
+    CountField, Counted, Edition, FirstEdition, SecondEdition, WrittenMessage, message_in,
+};
+use messages::Version;
+use model::{CallId, Reply};
 use texts::text::{Text, split_field};
 
 /// A line of a journal behind the first one.

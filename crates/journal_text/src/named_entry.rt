@@ -1,8 +1,7 @@
 //! Entries whose events have their names in them.
 use crate::named_event::NamedEvent;
-use messages::sends::Sends;
-use model::call::CallId;
-use model::reply::Reply;
+use messages::Sends;
+use model::{CallId, Reply};
 
 /// An entry of a journal, whose event has its names in it.
 #[derive(Drop)]

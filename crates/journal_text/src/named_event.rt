@@ -4,12 +4,9 @@
 ghost use Rattle.std.specs.Prelude.{◌≡◌, IfOk};
 ghost use Rattle.journal_text.specs.rule.Events as named;
 
-use message_text::written_message::WrittenMessage;
-use messages::event::{Event, MemberEvent, NodeInput, ServerInput};
-use messages::shared_message::SharedMessage;
-use model::call::CallId;
-use model::host::Host;
-use model::op::Op;
+use message_text::WrittenMessage;
+use messages::{Event, MemberEvent, NodeInput, ServerInput, SharedMessage};
+use model::{CallId, Host, Op};
 use std::alloc::{AllocError, Global};
 
 /// An event with the incarnation, the epoch or the call that its entry names.

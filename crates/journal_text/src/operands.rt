@@ -1,8 +1,7 @@
 //! The operands of lines of journals, as types. N.I is a node in an incarnation.
 use crate::replies::ReplyText;
-use lockscript::operations::Operation;
-use message_text::names::{CallName, HostName};
-use message_text::numbers::{FileField, PidField};
+use lockscript::Operation;
+use message_text::{CallName, FileField, HostName, PidField};
 
 /// The operands of `call`: `CALL PID OP`.
 pub(crate) type CallFields = (CallName, (PidField, Operation));

@@ -8,11 +8,8 @@ use crate::builder::Builder;
 use crate::head::head_of;
 use crate::journal_reader::JournalReader;
 use crate::sink::Sink;
-use lockscript::error::ParseError;
-use lockscript::lines::split_line;
-use messages::entry::Entry;
-use messages::shape::Shape;
-use messages::version::Version;
+use lockscript::{ParseError, split_line};
+use messages::{Entry, Shape, Version};
 use std::alloc::Global;
 
 /// The journal whose text this is: the shape of the cluster, and the entries in order. The first

@@ -3,10 +3,9 @@ ghost use Rattle.texts.specs.rule.Reads.{Reads};
 ghost use Rattle.lockscript.specs.rule.Texts.{reply_text};
 ghost use Rattle.journal_text.specs.rule.Served.{IsServedReply};
 
-use lockscript::replies::push_reply;
-use message_text::fields::LockText;
-use message_text::numbers::DescriptorField;
-use model::reply::Reply;
+use lockscript::push_reply;
+use message_text::{DescriptorField, LockText};
+use model::Reply;
 use std::alloc::AllocError;
 use texts::text::{Text, split_field};
 

@@ -5,7 +5,7 @@ ghost use Rattle.std.specs.Prelude.{◌≡◌, ◌++◌, ◌∷◌, [], List, �
 ghost use Rattle.messages.specs.rule.Entries.{EntryFields};
 ghost use Rattle.messages.specs.rule.Shapes.{ShapeFields};
 
-use messages::entry::Entry;
+use messages::Entry;
 use std::alloc::{AllocError, Global};
 
 /// A receiver of the entries of a journal, which takes them in order.

@@ -5,10 +5,9 @@ ghost use Rattle.std.specs.Prelude.{◌≡◌, ◌++◌, string_bytes, OnOk};
 ghost use Rattle.journal_text.specs.rule.Texts.{event_text, member_text, node_input_text, server_input_text};
 
 use crate::operands::CallFields;
-use message_text::writing::{push, push_message};
-use messages::event::{Event, MemberEvent, NodeInput, ServerInput};
-use messages::version::Version;
-use model::call::CallId;
+use message_text::{push, push_message};
+use messages::{Event, MemberEvent, NodeInput, ServerInput, Version};
+use model::CallId;
 use std::alloc::AllocError;
 use std::fmt::Write;
 

@@ -12,7 +12,7 @@ use Rattle.messages.specs.declared.event.ServerInput.TheVariants as order
 use Rattle.messages.specs.declared.message.Message.{Message}
 use Rattle.messages.specs.declared.refusal.Refused.{Refused}
 use Rattle.messages.specs.declared.refusal.Refused.TheVariants.{Fenced, JournalFull, NoMemory, Stranger}
-use Rattle.messages.specs.rule.Refusals.{number_of}
+use Rattle.messages.specs.rule.Entries.{number_of}
 use Rattle.cluster_core.specs.rule.Journals.{delivery}
 use Rattle.cluster_core.specs.rule.Next.{kept_next}
 use Rattle.cluster_core.specs.rule.World.{WorldState}

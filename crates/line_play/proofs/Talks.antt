@@ -1,8 +1,8 @@
 -- Talks with who answers the lines of a script.
 use Rattle.std.proofs.Common.{◌≡◌, ℕ, List, [], ◌∷◌, Option, Some, ap, inl, inr, subst}
-use Rattle.talks.specs.Talks.{Answers, BreaksOff, IsSaid, Talks, TalksToTheEnd, Turned}
-use Rattle.talks.specs.declared.talk.TalkEnd.{TalkEnd}
-use Rattle.talks.specs.declared.talk.TalkEnd.TheVariants.{AtEnd, CannotRead, CannotWrite, NoMemory}
+use Rattle.seat_text.specs.rule.Talks.{Answers, BreaksOff, IsSaid, Talks, TalksToTheEnd, Turned}
+use Rattle.seat_text.specs.declared.talk.TalkEnd.{TalkEnd}
+use Rattle.seat_text.specs.declared.talk.TalkEnd.TheVariants.{AtEnd, CannotRead, CannotWrite, NoMemory}
 use Rattle.line_play.specs.code.Parts.{PlayedParts, SaysAt, stage_of}
 use Rattle.line_play.specs.declared.answering.PlayEnd.{PlayEnd}
 use Rattle.line_play.specs.rule.Answers.{Says, Stage, first_stage}

@@ -10,9 +10,8 @@ use Rattle.lockscript.specs.declared.refused_line.RefusedLine.{RefusedLine}
 use Rattle.lockscript.specs.rule.Scripts.{IsLine, LineFields, Writes, line_text, script_of, shape_text}
 use Rattle.player.specs.rule.Progress.{Progress, RunsTo, first_progress}
 use Rattle.player.proofs.Progresses.{lines_lead}
-use Rattle.talks.specs.Talks.{Answers}
-use Rattle.line_play.specs.rule.Answers.{Begins, PlaysTo, Says, Stage, answer_text, first_answer}
-use Rattle.line_play.specs.rule.Transcripts.{AnswersArePlayed, IsPlayed, Part, answers_text}
+use Rattle.seat_text.specs.rule.Talks.{Answers}
+use Rattle.line_play.specs.rule.Answers.{Begins, PlaysTo, Says, Stage, answer_text, first_answer, AnswersArePlayed, IsPlayed, Part, answers_text}
 
 -- the stage of a run, behind so many lines
 abbrev pub running : ℕ → Progress → Stage

@@ -1,4 +1,2 @@
 pub mod Answers
-pub mod Stops
-pub mod Transcripts
 pub mod Playing

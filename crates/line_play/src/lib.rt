@@ -3,7 +3,5 @@
 #![tactic(auto)]
 
 pub mod answering;
-mod answers;
 pub mod laws;
-pub mod played_lines;
 pub mod stop;

@@ -1,9 +1,9 @@
 //! The reasons for which lines are played no further.
 ghost use Rattle.std.specs.Prelude.{◌≡◌};
 ghost use Rattle.line_play.specs.declared.stop.Stop.TheVariants.{NoMemory};
-ghost use Rattle.line_play.specs.rule.Stops.{stop_of};
+ghost use Rattle.line_play.specs.rule.Answers.{stop_of};
 
-use lockscript::play_error::PlayError;
+use lockscript::PlayError;
 use std::alloc::AllocError;
 
 /// A reason for which lines are played no further.

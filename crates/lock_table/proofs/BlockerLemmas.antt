@@ -1,27 +1,29 @@
--- Locks that block, and what is lowest in the way in the locks of several rows together.
-use Rattle.std.proofs.Common.{◌≡◌, ◌≢◌, ℕ, ◌+◌, ◌-◌, ◌<◌, ◌≤◌, ◌⊎◌, true, false, ◌&&◌, eqb, eq-eqb, max, length, get_or, take, List, [], ◌∷◌, ◌++◌, Option, Some, None, IfSome, IsSomeAnd, MatchOption, refl, ap, sym, ◌∙◌, subst, inl, inr, arith}
-use Rattle.std.specs.List.{All}
+-- Locks that block, what is lowest in the way, and the largest span without a lock in the way.
+use Rattle.std.proofs.Common.{◌≢◌, ◌+◌, ◌-◌, ◌<◌, true, false, ◌&&◌, eqb, eq-eqb, max, length, get_or, take, List, [], ◌∷◌, ◌++◌, Option, Some, None, IfSome, IsSomeAnd, MatchOption, refl, ap, sym, ◌∙◌, subst, inl, inr, arith, zero, suc, ◌*◌, ltb, drop}
+use Rattle.std.specs.List.{All, AllWithin}
 use Rattle.std.specs.declared.cmp.Ordering.TheVariants.{Less, Greater}
-use Rattle.std.proofs.lemmas.Bool.{cases_lt, cases_Bool, and_from, and_right, both_ways, false≢true}
-use Rattle.std.proofs.lemmas.List.{take_more}
-use Rattle.intervals.specs.rule.Bytes.{Range, nothing, IsRun, IsBarred, NoneIn}
+use Rattle.std.proofs.lemmas.Bool.{cases_lt, cases_Bool, and_from, and_right, both_ways, false≢true, ltb-true}
+use Rattle.std.proofs.lemmas.List.{take_more, get_or_default, get_or-drop}
+use Rattle.intervals.specs.rule.Bytes.{Range, nothing, IsRun, IsBarred, NoneIn, IsLargest, greatest, run_from}
 use Rattle.intervals.specs.rule.Runs.{value_at}
 use Rattle.intervals.proofs.SpanLaws.{runs_are_one}
 use Rattle.model.specs.declared.mode.Mode.{Mode}
 use Rattle.model.specs.declared.mode.Mode.TheVariants.{Read, Write}
 use Rattle.model.specs.declared.owner.Owner.{Owner}
 use Rattle.model.specs.declared.lock_info.LockInfo.{LockInfo}
-use Rattle.model.specs.rule.Owners.{same_owner, owner_cmp}
+use Rattle.model.specs.rule.Owners.{same_owner, owner_cmp, same_mode}
 use Rattle.model.specs.rule.Locks.{bar_of, FileLocks, excludes, bars, IsFree, IsRegion, IsNotAfter, IsLowestBlocker, IsClear, IsInWay, IsLowestInWay}
 use Rattle.lock_table.specs.declared.owner_locks.OwnerLocks.{OwnerLocks}
-use Rattle.lock_table.specs.code.Regions.{IsFirstRegion}
-use Rattle.lock_table.specs.code.Rows.{row_cmp, AllAfter, AreRows, locks_of}
-use Rattle.lock_table.specs.rule.Tables.{rows_held}
-use Rattle.lock_table.specs.code.Blockers.{IsAsked, IsClearBut, IsRegionBut, IsLowestBut}
+use Rattle.lock_table.specs.code.Rows.{IsFirstRegion, row_cmp, AllAfter, AreRows, locks_of, IsBounded, mark_of, ArePassed, Has, flag_of}
+use Rattle.lock_table.specs.rule.Tables.{rows_held, HasInWay}
+use Rattle.lock_table.specs.code.Blockers.{IsAsked, IsClearBut, IsRegionBut, IsLowestBut, AreNear}
 use Rattle.model.proofs.OwnerLaws.{owner_exact, owner_refl}
-use Rattle.lock_table.proofs.Orders.{owners_total, owner_equal, owner_not_greater, not_greater_trans, cases_not_greater, back_greater, place_cmp, places_total, back_less}
-use Rattle.lock_table.proofs.RowLemmas.{is_of, is_of_less}
-use Rattle.lock_table.proofs.FileRows.{rows-take}
+use Rattle.lock_table.proofs.RowLemmas.{owners_total, owner_equal, owner_not_greater, not_greater_trans, cases_not_greater, back_greater, place_cmp, places_total, back_less, is_of, is_of_less, rows-take, marks_rise, some_row}
+use Rattle.std.specs.Prelude.{◌≡◌, ℕ, ◌≤◌, ◌⊎◌}
+use Rattle.intervals.proofs.Find.{not_barred-none}
+use Rattle.model.proofs.RunLaws.{some_start, run_from-is_run}
+use Rattle.lock_table.proofs.PageLemmas.{row_held, none_near}
+use Rattle.lock_table.specs.declared.owner_set.OwnerSet.{OwnerSet}
 
 -- the locks of a row, for its own owner
 pub locks_own : (r : OwnerLocks) → locks_of r r.owner ≡ value_at r.spans
@@ -342,3 +344,212 @@ in_way_from h s mode (Some x) low =
       in_way = its.in_way;
       lowest = λ y region way. its.lowest y (record { asked = tt; region = region }) way;
     }
+
+-- two kinds of the same bytes have the same largest span
+pub IsLargest-iff : (P Q : ℕ → Type 0) (required within s : Range) → ((b : ℕ) → P b → Q b) → ((b : ℕ) → Q b → P b) → IsLargest P required within s → IsLargest Q required within s
+IsLargest-iff P Q required within s to from l = record {
+  has_first = l.has_first;
+  has_last = l.has_last;
+  starts_within = l.starts_within;
+  ends_within = l.ends_within;
+  free = λ b lo hi q. l.free b lo hi (from b q);
+  full_below = λ b next le. to b (l.full_below b next le);
+  full_above = λ lt. to _ (l.full_above lt);
+}
+
+-- the largest span for two kinds is the one for the second kind within the one for the first
+pub IsLargest-or : (P Q : ℕ → Type 0) (required within s t : Range) → required.lo ≤ required.hi → IsLargest P required within s → IsLargest Q required s t → IsLargest (λ b. P b ⊎ Q b) required within t
+IsLargest-or P Q required within s t order l m = record {
+  has_first = m.has_first;
+  has_last = m.has_last;
+  starts_within = omega (arith, l.starts_within, m.starts_within);
+  ends_within = omega (arith, l.ends_within, m.ends_within);
+  free = λ b lo hi either. elim either [
+    | inl p ↦ l.free b (omega (arith, m.starts_within)) (omega (arith, m.ends_within)) p
+    | inr q ↦ m.free b lo hi q
+  ];
+  full_below = λ b next le. elim (cases_lt b s.lo) [
+    | inl lt ↦ inl (l.full_below b (omega (arith, m.starts_within)) le)
+    | inr ge ↦ inr (m.full_below b next ge)
+  ];
+  full_above = λ lt. elim (cases_lt t.hi s.hi) [
+    | inl less ↦ inr (m.full_above less)
+    | inr ge ↦ inl (rw (let same : t.hi ≡ s.hi = omega (arith, m.ends_within) in same) (l.full_above (omega arith)))
+  ];
+}
+
+-- the largest span is the whole one if no byte of it is of the kind
+pub IsLargest-whole : (P : ℕ → Type 0) (required within : Range) → within.lo ≤ required.lo → required.hi ≤ within.hi → NoneIn P within → IsLargest P required within within
+IsLargest-whole P required within starts ends free = record {
+  has_first = starts;
+  has_last = ends;
+  starts_within = omega arith;
+  ends_within = omega arith;
+  free = free;
+  full_below = λ b next le. absurd (omega arith);
+  full_above = λ lt. absurd (omega arith);
+}
+
+-- no byte past the greatest offset is held
+bounded-below : (g : ℕ → Option Mode) (b : ℕ) (m : Mode) → IsBounded g → g b ≡ Some m → b ≤ greatest
+bounded-below g b m bounded at = elim (cases_lt greatest b) [ inl past ↦ let none = bounded b past in absurd cc | inr le ↦ le ]
+
+-- a run ends no lower than the bytes of its value that go on from its first byte
+ends_from : (f : ℕ → Option Mode) (m : Mode) (b lo : ℕ) (s : Range) → s.lo ≡ lo → IsRun f s m → ((c : ℕ) → lo ≤ c → c ≤ b → f c ≡ Some m) → b ≤ s.hi
+ends_from f m b lo s is run all = elim (cases_lt s.hi b) [
+  | inl lt ↦ let ordered = run.ordered in absurd (run.ends (all (s.hi + 1) (omega arith) (omega arith)))
+  | inr le ↦ le
+]
+
+-- a held byte is in a run
+byte_run : (f : ℕ → Option Mode) (b : ℕ) (m : Mode) → IsBounded f → f b ≡ Some m → (s : Range) × IsRun f s m × (s.lo ≤ b) × (b ≤ s.hi)
+byte_run f b m bounded here =
+    let start = some_start f m b here in
+    let all = start.1.all in
+    let least = start.1.least in
+    let at_lo : f start.0 ≡ Some m = all start.0 (omega arith) least in
+    let run : IsRun f (run_from same_mode f start.0 m) m = run_from-is_run f m start.0 (bounded-below f start.0 m bounded at_lo) at_lo start.1.start bounded in
+    (run_from same_mode f start.0 m, run, least, ends_from f m b start.0 (run_from same_mode f start.0 m) refl run all)
+
+module _ (r : OwnerLocks) (mode : Mode) (b : ℕ) where
+  -- a byte of the row bars the mode exactly if a region in the way holds it
+  way_from : (x : Option Mode) → IsBounded (value_at r.spans) → value_at r.spans b ≡ x → IsBarred (value_at r.spans) (bar_of mode) b → HasInWay (IsRegion (locks_of r)) mode b
+  way_from None bounded is barred = absurd (not_barred-none (value_at r.spans) (bar_of mode) b is barred)
+  way_from (Some m) bounded is barred =
+      let found = byte_run (value_at r.spans) b m bounded is in
+      (record { owner = r.owner; mode = m; span = found.0 }, own_region r (record { owner = r.owner; mode = m; span = found.0 }) refl found.1, record { conflicts = excluded_from (value_at r.spans) b mode m is barred; starts = found.2; ends = found.3 })
+
+  way_barred : HasInWay (IsRegion (locks_of r)) mode b → IsBarred (value_at r.spans) (bar_of mode) b
+  way_barred has =
+      let run = (region_own r has.0 has.1).1 in
+      barred_from (value_at r.spans) b mode has.0.mode (run.all b has.2.starts has.2.ends) has.2.conflicts
+
+  -- a byte that doesn't bar the mode is not barred
+  free_at : (x : Option Mode) → value_at r.spans b ≡ x → bars mode (value_at r.spans b) ≡ false → IsBarred (value_at r.spans) (bar_of mode) b → ⊥
+  free_at None is free barred = not_barred-none (value_at r.spans) (bar_of mode) b is barred
+  free_at (Some m) is free barred = both_ways (excludes m mode) (rw is at free) (excluded_from (value_at r.spans) b mode m is barred)
+
+-- before any row is read the largest span is the whole one
+pub around-start : (mode : Mode) (required within : Range) → within.lo ≤ required.lo → required.hi ≤ within.hi → IsLargest (HasInWay (IsRegion (λ o. nothing)) mode) required within within
+around-start mode required within starts ends = IsLargest-whole (HasInWay (IsRegion (λ o. nothing)) mode) required within starts ends (λ b above below has. nothing_region has.0.span has.0.mode has.1)
+
+module _ (g k : FileLocks) (r : OwnerLocks) (join : IsJoin g (locks_of r) k) (mode : Mode) (required within span : Range) (is : IsLargest (HasInWay (IsRegion g) mode) required within span) where
+  way_left : (b : ℕ) → HasInWay (IsRegion g) mode b → HasInWay (IsRegion k) mode b
+  way_left b has = (has.0, region_left g (locks_of r) k join has.0 has.1, has.2)
+
+  way_right : (b : ℕ) → HasInWay (IsRegion (locks_of r)) mode b → HasInWay (IsRegion k) mode b
+  way_right b has = (has.0, region_right g (locks_of r) k join has.0 has.1, has.2)
+
+  -- the largest span after one more row
+  pub around-more : (next : Range) → required.lo ≤ required.hi → IsBounded (value_at r.spans) → IsLargest (IsBarred (value_at r.spans) (bar_of mode)) required span next → IsLargest (HasInWay (IsRegion k) mode) required within next
+  around-more next order bounded its = IsLargest-iff (λ b. HasInWay (IsRegion g) mode b ⊎ IsBarred (value_at r.spans) (bar_of mode) b) (HasInWay (IsRegion k) mode) required within next
+      (λ b either. elim either [
+        | inl has ↦ way_left b has
+        | inr barred ↦ way_right b (way_from r mode b (value_at r.spans b) bounded refl barred)
+      ])
+      (λ b has. elim (region_cases g (locks_of r) k join has.0 has.1) [
+        | inl left ↦ inl (has.0, left, has.2)
+        | inr right ↦ inr (way_barred r mode b (has.0, right, has.2))
+      ])
+      (IsLargest-or (HasInWay (IsRegion g) mode) (IsBarred (value_at r.spans) (bar_of mode)) required within span next order is its)
+
+  -- the largest span stays after a row that holds no byte near
+  pub around-skip : ((b : ℕ) (m : Mode) → within.lo ≤ b → b ≤ within.hi → value_at r.spans b ≡ Some m → ⊥) → IsLargest (HasInWay (IsRegion k) mode) required within span
+  around-skip away = record {
+    has_first = is.has_first;
+    has_last = is.has_last;
+    starts_within = is.starts_within;
+    ends_within = is.ends_within;
+    free = λ b lo hi has. elim (region_cases g (locks_of r) k join has.0 has.1) [
+      | inl left ↦ is.free b lo hi (has.0, left, has.2)
+      | inr right ↦
+          let run = (region_own r has.0 right).1 in
+          away b has.0.mode (omega (arith, is.starts_within)) (omega (arith, is.ends_within)) (run.all b has.2.starts has.2.ends)
+    ];
+    full_below = λ b next le. way_left b (is.full_below b next le);
+    full_above = λ lt. way_left (span.hi + 1) (is.full_above lt);
+  }
+
+-- the largest span in one of two parts of the locks, and then in the other, is the one in both
+pub around-join : (g h k : FileLocks) → IsJoin g h k → (mode : Mode) (required within span next : Range) → required.lo ≤ required.hi → IsLargest (HasInWay (IsRegion g) mode) required within span → IsLargest (HasInWay (IsRegion h) mode) required span next → IsLargest (HasInWay (IsRegion k) mode) required within next
+around-join g h k join mode required within span next order first second = IsLargest-iff (λ b. HasInWay (IsRegion g) mode b ⊎ HasInWay (IsRegion h) mode b) (HasInWay (IsRegion k) mode) required within next
+    (λ b either. elim either [
+      | inl has ↦ (has.0, region_left g h k join has.0 has.1, has.2)
+      | inr has ↦ (has.0, region_right g h k join has.0 has.1, has.2)
+    ])
+    (λ b has. elim (region_cases g h k join has.0 has.1) [
+      | inl left ↦ inl (has.0, left, has.2)
+      | inr right ↦ inr (has.0, right, has.2)
+    ])
+    (IsLargest-or (HasInWay (IsRegion g) mode) (HasInWay (IsRegion h) mode) required within span next order first second)
+
+-- if no lock is in the way on the span, no row has a byte there that bars the mode
+pub none_barred : (part : List OwnerLocks) (file i : ℕ) (r : OwnerLocks) (s : Range) (mode : Mode) → IsClear (rows_held part file) s mode → AreRows part → All (λ (t : OwnerLocks). t.file ≡ file) part → i < length part → r ≡ get_or part i r → NoneIn (IsBarred (value_at r.spans) (bar_of mode)) s
+none_barred part file i r s mode clear order files lt is b lo hi barred =
+    let of_file : r.file ≡ file = rw (← is) at (files i r lt) in
+    let own : rows_held part file r.owner ≡ value_at r.spans = rw (← of_file) (row_held part i r order lt is) in
+    let here : rows_held part file r.owner b ≡ value_at r.spans b = ap (λ (e : ℕ → Option Mode). e b) own in
+    free_at r mode b (value_at r.spans b) refl (sym (ap (bars mode) here) ∙ clear r.owner b lo hi) barred
+
+-- where some of the locks are clear
+pub clear_among : (g h : FileLocks) (s : Range) (mode : Mode) → ((o : Owner) (b : ℕ) (m : Mode) → g o b ≡ Some m → h o b ≡ Some m) → IsClear h s mode → IsClear g s mode
+clear_among g h s mode among clear o b lo hi = go (g o b) refl
+  where
+    go : (x : Option Mode) → g o b ≡ x → bars mode (g o b) ≡ false
+    go None at = rw at refl
+    go (Some m) at = ap (bars mode) (at ∙ sym (among o b m at)) ∙ clear o b lo hi
+
+-- a flag between two others, of a file between equal ones
+between : (f g low flag next : ℕ) → flag < 256 → next ≤ 256 → f * 256 + low ≤ g * 256 + flag → g * 256 + flag < f * 256 + next → (low ≤ flag) × (flag < next)
+between f g low flag next small least from below = (omega arith, omega arith)
+
+-- the rows from one on whose marks are below the next flag of the set in its file are of owners that the set doesn't have
+pub flags_passed : (l : List OwnerLocks) (near : OwnerSet) (from next count : ℕ) (first : OwnerLocks) → AreRows l → from < length l → first ≡ get_or l from first → ((o : Owner) → flag_of first.owner ≤ flag_of o → flag_of o < next → Has near o → ⊥) → next ≤ 256 → AllWithin (λ (r : OwnerLocks). ltb (mark_of r.file r.owner) (first.file * 256 + next) ≡ true) (drop from l) 0 count → from + count ≤ length l → ArePassed l near from (from + count)
+flags_passed l near from next count first rows within is_first none least point le k row low high is has =
+    let here : from + (k - from) ≡ k = omega arith in
+    let read : get_or (drop from l) (k - from) row ≡ row = get_or-drop from l (k - from) row ∙ ap (λ (n : ℕ). get_or l n row) here ∙ sym is in
+    let below = ltb-true _ _ (rw read at (point (k - from) row (omega arith) (omega arith))) in
+    let start : get_or l from row ≡ first = get_or_default l from row first within ∙ sym is_first in
+    let above = rw (start, ← is) at (marks_rise l rows from k row low (omega arith)) in
+    let flags = between first.file row.file (flag_of first.owner) (flag_of row.owner) next (omega arith) least above below in
+    none row.owner flags.0 flags.1 has
+
+module _ (near : OwnerSet) (part : List OwnerLocks) (file : ℕ) (s : Range) (nearby : AreNear (rows_held part file) near s) (order : AreRows part) (files : All (λ (t : OwnerLocks). t.file ≡ file) part) where
+  -- rows that are passed don't change which lock is the lowest in the way
+  lowest_more : (out : Option Owner) (mode : Mode) (lowest : Option LockInfo) (i n : ℕ) → i + n ≤ length part → ArePassed part near i (i + n) → IsLowestBut (rows_held (take i part) file) out s mode lowest → IsLowestBut (rows_held (take (i + n) part) file) out s mode lowest
+  lowest_more out mode lowest i zero le passed h = let here : i ≡ i + 0 = omega arith in subst (λ (k : ℕ). IsLowestBut (rows_held (take k part) file) out s mode lowest) here h
+  lowest_more out mode lowest i (suc n) le passed h =
+      let d = some_row part (omega arith) in
+      let lt : i + n < length part = omega arith in
+      let r = get_or part (i + n) d in
+      let is : r ≡ get_or part (i + n) r = get_or_default part (i + n) d r lt in
+      let before = lowest_more out mode lowest i n (omega arith) (λ k row from below. passed k row from (omega arith)) h in
+      let away = passed (i + n) r (omega arith) (omega arith) is in
+      let clear = row_passed r out s mode (λ b m lo hi at barred. none_near near part file (i + n) r s nearby order files lt is away b m lo hi at) in
+      let after = lowest_past _ _ _ (rows_step part (i + n) r file order files lt is) out s mode lowest before clear in
+      let here : i + n + 1 ≡ i + suc n = omega arith in
+      subst (λ (k : ℕ). IsLowestBut (rows_held (take k part) file) out s mode lowest) here after
+
+  pub lowest_to : (out : Option Owner) (mode : Mode) (lowest : Option LockInfo) (i j : ℕ) → i ≤ j → j ≤ length part → ArePassed part near i j → IsLowestBut (rows_held (take i part) file) out s mode lowest → IsLowestBut (rows_held (take j part) file) out s mode lowest
+  lowest_to out mode lowest i j order' within passed h =
+      let here : i + (j - i) ≡ j = omega arith in
+      subst (λ (k : ℕ). IsLowestBut (rows_held (take k part) file) out s mode lowest) here (lowest_more out mode lowest i (j - i) (omega arith) (λ k row from below. passed k row from (omega arith)) h)
+
+  -- rows that are passed don't change which span is the largest
+  around_more : (mode : Mode) (required span : Range) (i n : ℕ) → i + n ≤ length part → ArePassed part near i (i + n) → IsLargest (HasInWay (IsRegion (rows_held (take i part) file)) mode) required s span → IsLargest (HasInWay (IsRegion (rows_held (take (i + n) part) file)) mode) required s span
+  around_more mode required span i zero le passed h = let here : i ≡ i + 0 = omega arith in subst (λ (k : ℕ). IsLargest (HasInWay (IsRegion (rows_held (take k part) file)) mode) required s span) here h
+  around_more mode required span i (suc n) le passed h =
+      let d = some_row part (omega arith) in
+      let lt : i + n < length part = omega arith in
+      let r = get_or part (i + n) d in
+      let is : r ≡ get_or part (i + n) r = get_or_default part (i + n) d r lt in
+      let before = around_more mode required span i n (omega arith) (λ k row from below. passed k row from (omega arith)) h in
+      let away = none_near near part file (i + n) r s nearby order files lt is (passed (i + n) r (omega arith) (omega arith) is) in
+      let after = around-skip _ _ r (rows_step part (i + n) r file order files lt is) mode required s span before away in
+      let here : i + n + 1 ≡ i + suc n = omega arith in
+      subst (λ (k : ℕ). IsLargest (HasInWay (IsRegion (rows_held (take k part) file)) mode) required s span) here after
+
+  pub around_to : (mode : Mode) (required span : Range) (i j : ℕ) → i ≤ j → j ≤ length part → ArePassed part near i j → IsLargest (HasInWay (IsRegion (rows_held (take i part) file)) mode) required s span → IsLargest (HasInWay (IsRegion (rows_held (take j part) file)) mode) required s span
+  around_to mode required span i j order' within passed h =
+      let here : i + (j - i) ≡ j = omega arith in
+      subst (λ (k : ℕ). IsLargest (HasInWay (IsRegion (rows_held (take k part) file)) mode) required s span) here (around_more mode required span i (j - i) (omega arith) (λ k row from below. passed k row from (omega arith)) h)

@@ -1,13 +1,13 @@
 -- Lists of the regions of a file.
 use Rattle.std.proofs.Common.{◌≡◌, ◌≢◌, ℕ, zero, suc, ◌+◌, ◌-◌, ◌<◌, ◌≤◌, true, false, eqb, eq-eqb, ne_eqb, length, get_or, List, [], ◌∷◌, ◌++◌, Some, None, refl, ap, sym, ◌∙◌, subst, inl, inr, arith, append_assoc}
-use Rattle.std.specs.List.{All, AllByRecursion, Contains, IsDistinct}
+use Rattle.std.specs.List.{All, AllByRecursion, Contains, IsDistinct, AllPairs}
 use Rattle.std.specs.List.Sorted.{IsPermutation, IsSortedBy}
 use Rattle.std.specs.Ordering.{is_lt}
 use Rattle.std.specs.Cmp.{IsTotalOrder, IsStrictWeakOrder}
 use Rattle.std.specs.declared.cmp.Ordering.{Ordering}
 use Rattle.std.specs.declared.cmp.Ordering.TheVariants.{Less, Equal, Greater}
 use Rattle.std.proofs.lemmas.Bool.{cases_lt, cases_Bool, and_parts, and_from, and_left, and_right, both_ways, false≢true, eqb-true}
-use Rattle.std.proofs.lemmas.Cmp.{then_total, on_total, nat_cmp_total}
+use Rattle.std.proofs.lemmas.Cmp.{then_total, on_total, nat_cmp_total, tied_itself}
 use Rattle.std.proofs.lemmas.List.{append-nil}
 use Rattle.std.proofs.lemmas.List.Elements.{All-nil, All-append, All-push, All-weaker, All-from_recursion, recursion_from_All, Contains-append_left, Contains-append_right, Contains-push}
 use Rattle.std.proofs.lemmas.List.Sorted.{ranks_by, sorted_far, All-permutation, Contains-permutation}
@@ -17,16 +17,16 @@ use Rattle.intervals.specs.rule.Runs.{value_at}
 use Rattle.intervals.proofs.SpanLaws.{runs_are_one}
 use Rattle.model.specs.declared.mode.Mode.{Mode}
 use Rattle.model.specs.declared.lock_info.LockInfo.{LockInfo}
-use Rattle.model.specs.rule.Owners.{same_owner}
+use Rattle.model.specs.rule.Owners.{same_owner, owner_cmp}
 use Rattle.model.specs.rule.Locks.{FileLocks, IsRegion}
 use Rattle.lock_table.specs.declared.owner_locks.OwnerLocks.{OwnerLocks}
-use Rattle.lock_table.specs.code.Regions.{rest_from, IsFirstRegion}
-use Rattle.lock_table.specs.code.Rows.{locks_of, NothingFrom}
-use Rattle.lock_table.specs.code.Listing.{lock_cmp}
-use Rattle.lock_table.specs.rule.Listing.{IsBefore, IsListing, same_start, ListsRegions}
+use Rattle.lock_table.specs.code.Rows.{rest_from, IsFirstRegion, locks_of, NothingFrom}
+use Rattle.lock_table.specs.code.Blockers.{lock_cmp}
+use Rattle.lock_table.specs.rule.Tables.{IsBefore, IsListing, same_start, ListsRegions}
 use Rattle.model.proofs.OwnerLaws.{owner_exact, owner_refl}
-use Rattle.lock_table.proofs.Orders.{owners_total, owner_equal, nat_cmp_less, nat_cmp_equal, then_less, then_equal, back_less}
+use Rattle.lock_table.proofs.RowLemmas.{owners_total, owner_equal, nat_cmp_less, nat_cmp_equal, then_less, then_equal, back_less}
 use Rattle.lock_table.proofs.BlockerLemmas.{IsJoin, region_left, region_right, region_cases, owners_apart, region_own, own_region, lock_one}
+use Rattle.model.specs.declared.owner.Owner.{Owner}
 
 -- the order of locks is total
 pub locks_total : IsTotalOrder lock_cmp
@@ -210,3 +210,29 @@ listed-end r from old new l none = (
     once = l.once;
   },
 )
+
+owners_differ : (a b : Owner) → owner_cmp a b ≡ Less → same_owner a b ≡ false
+owners_differ a b less = elim (cases_Bool (same_owner a b)) [
+  | inl same ↦
+      let here : owner_cmp b b ≡ Less = subst (λ (o : Owner). owner_cmp o b ≡ Less) (owner_exact a b same) less in
+      let itself : owner_cmp b b ≡ Equal = tied_itself owners_total b in
+      absurd cc
+  | inr differ ↦ differ
+]
+
+-- a region that comes before another one begins elsewhere or is of another owner
+before_differ : (a b : LockInfo) → IsBefore a b → same_start a b ≡ false
+before_differ a b (inl lt) = and_left (eqb a.span.lo b.span.lo) (same_owner a.owner b.owner) (ne_eqb a.span.lo b.span.lo (λ e. absurd (omega arith)))
+before_differ a b (inr h) = and_right (eqb a.span.lo b.span.lo) (same_owner a.owner b.owner) (owners_differ a.owner b.owner h.1)
+
+distinct_from : (xs : List LockInfo) → AllPairs IsBefore xs → IsDistinct same_start xs
+unfolding IsDistinct
+distinct_from [] rises = tt
+distinct_from (x ∷ xs) rises = (
+  recursion_from_All (λ y. same_start x y ≡ false) xs (λ k d lt. before_differ x (get_or xs k d) (rises 0 (suc k) d (omega arith) (omega arith))),
+  distinct_from xs (λ i j d lt within. rises (suc i) (suc j) d (omega arith) (omega arith)),
+)
+
+-- a listing lists each region once
+pub lists_listing : (h : FileLocks) (xs : List LockInfo) → IsListing h xs → ListsRegions h xs
+lists_listing h xs l = record { regions = l.regions; complete = l.complete; once = distinct_from xs l.rises }

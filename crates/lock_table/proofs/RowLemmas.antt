@@ -1,21 +1,133 @@
--- What changes of the rows do to the locks.
-use Rattle.std.proofs.Common.{◌≡◌, ℕ, zero, suc, ◌<◌, ◌≤◌, Bool, true, false, ◌&&◌, not, eqb, eq-eqb, length, get_or, set, List, [], ◌∷◌, Result, Ok, Err, MatchResult, refl, sym, ◌∙◌, inl, inr, arith, add-one}
-use Rattle.std.specs.List.{insert, remove, filter, AllWithin}
-use Rattle.std.specs.List.Sorted.{IsSortedBy, IsNonDecreasingBy, IsBinarySearchResult, IsSearchInRange}
-use Rattle.std.specs.Ordering.{is_lt, ordering_index}
+-- The order of owners, the rows of a file, and what changes of rows do to the locks.
+use Rattle.std.proofs.Common.{◌≡◌, ◌≢◌, ◌⊎◌, ℕ, ◌<◌, refl, ap, sym, ◌∙◌, subst, inl, inr, arith, zero, suc, ◌≤◌, Bool, true, false, ◌&&◌, not, eqb, eq-eqb, length, get_or, set, List, [], ◌∷◌, Result, Ok, Err, MatchResult, add-one, ◌+◌, ◌-◌, ne_eqb, leb, ltb, take, drop}
+use Rattle.std.proofs.lemmas.Cmp.{ranked, then_total, on_total, nat_cmp_total, tied_itself}
+use Rattle.std.specs.Cmp.{IsTotalOrder}
+use Rattle.std.specs.Ordering.{nat_cmp, ordering_then, ordering_reverse, is_lt, ordering_index}
+use Rattle.std.specs.declared.cmp.Ordering.{Ordering}
 use Rattle.std.specs.declared.cmp.Ordering.TheVariants.{Less, Equal, Greater}
-use Rattle.std.proofs.lemmas.Bool.{cases_Bool, and_parts, and_from, and_right, eqb-true, both_ways}
+use Rattle.model.specs.declared.owner.Kind.{Kind}
+use Rattle.model.specs.declared.owner.Kind.TheVariants.{OfProcess, OfDescription}
+use Rattle.model.specs.declared.owner.Owner.{Owner}
+use Rattle.model.specs.rule.Owners.{kind_cmp, owner_cmp, same_owner}
+use Rattle.lock_table.specs.code.Rows.{flag_of, mark_of, row_cmp, HoldsSome, AllAfter, AreRows, IsRowAt, IsGap, IsSameRow}
+use Rattle.std.specs.List.{insert, remove, filter, AllWithin, All, AllZip}
+use Rattle.std.specs.List.Sorted.{IsSortedBy, IsNonDecreasingBy, IsBinarySearchResult, IsSearchInRange}
+use Rattle.std.proofs.lemmas.Bool.{cases_Bool, and_parts, and_from, and_right, eqb-true, both_ways, and_left, ltb-true, ltb-false, leb-true, leb-false, lt-ltb, cases_lt}
 use Rattle.std.proofs.lemmas.List.Sorted.{searchable_from_sorted}
 use Rattle.intervals.specs.rule.Bytes.{nothing}
 use Rattle.intervals.specs.rule.Runs.{value_at}
-use Rattle.model.specs.declared.owner.Owner.{Owner}
 use Rattle.model.specs.rule.Locks.{replace, without_owner_anywhere}
-use Rattle.model.specs.rule.Owners.{same_owner}
 use Rattle.lock_table.specs.declared.owner_locks.OwnerLocks.{OwnerLocks}
-use Rattle.lock_table.specs.code.Rows.{row_cmp, HoldsSome, AllAfter, AreRows, IsRowAt, IsGap}
-use Rattle.lock_table.specs.rule.Tables.{rows_held}
+use Rattle.lock_table.specs.rule.Tables.{rows_held, TableParts}
 use Rattle.model.proofs.OwnerLaws.{owner_exact, owner_refl}
-use Rattle.lock_table.proofs.Orders.{place_cmp, places_total, place_equal, place_itself, back_less, back_greater, greater_trans}
+use Rattle.std.proofs.lemmas.List.{length-take, length-drop, get_or-take, get_or-drop, drop_more}
+
+kind_rank : Kind → ℕ
+kind_rank OfProcess = 0
+kind_rank OfDescription = 1
+
+kind_total : IsTotalOrder kind_cmp
+unfolding kind_rank
+kind_total = subst IsTotalOrder (λ i a b. is a b i) (on_total kind_rank nat_cmp_total)
+  where
+    is : (a b : Kind) → nat_cmp (kind_rank a) (kind_rank b) ≡ kind_cmp a b
+    is OfProcess OfProcess = refl
+    is OfProcess OfDescription = refl
+    is OfDescription OfProcess = refl
+    is OfDescription OfDescription = refl
+
+pub owners_total : IsTotalOrder owner_cmp
+owners_total = then_total (on_total (λ (o : Owner). o.node) nat_cmp_total) (then_total (on_total (λ (o : Owner). o.incarnation) nat_cmp_total) (then_total (on_total (λ (o : Owner). o.kind) kind_total) (on_total (λ (o : Owner). o.number) nat_cmp_total)))
+
+-- what an order by one thing and then by another says of the two
+pub then_equal : (p q : Ordering) → ordering_then p q ≡ Equal → (p ≡ Equal) × (q ≡ Equal)
+then_equal Less q h = absurd cc
+then_equal Equal q h = (refl, h)
+then_equal Greater q h = absurd cc
+
+pub then_less : (p q : Ordering) → ordering_then p q ≡ Less → (p ≡ Less) ⊎ ((p ≡ Equal) × (q ≡ Less))
+then_less Less q h = inl refl
+then_less Equal q h = inr (refl, h)
+then_less Greater q h = absurd cc
+
+pub nat_cmp_equal : (x y : ℕ) → nat_cmp x y ≡ Equal → x ≡ y
+nat_cmp_equal x y h = ranked x y Equal (sym h)
+
+pub nat_cmp_less : (x y : ℕ) → nat_cmp x y ≡ Less → x < y
+nat_cmp_less x y h = ranked x y Less (sym h)
+
+kind_equal : (a b : Kind) → kind_cmp a b ≡ Equal → a ≡ b
+kind_equal OfProcess OfProcess h = refl
+kind_equal OfProcess OfDescription h = absurd cc
+kind_equal OfDescription OfProcess h = absurd cc
+kind_equal OfDescription OfDescription h = refl
+
+-- two owners that compare as equal are equal
+pub owner_equal : (a b : Owner) → owner_cmp a b ≡ Equal → a ≡ b
+owner_equal a b h =
+    let first = then_equal _ _ h in
+    let second = then_equal _ _ first.1 in
+    let third = then_equal _ _ second.1 in
+    let nodes = nat_cmp_equal _ _ first.0 in
+    let incarnations = nat_cmp_equal _ _ second.0 in
+    let kinds = kind_equal _ _ third.0 in
+    let numbers = nat_cmp_equal _ _ third.1 in
+    λ i. record { node = nodes i; incarnation = incarnations i; kind = kinds i; number = numbers i }
+
+pub cases_not_greater : (o : Ordering) → o ≢ Greater → (o ≡ Less) ⊎ (o ≡ Equal)
+cases_not_greater Less h = inl refl
+cases_not_greater Equal h = inr refl
+cases_not_greater Greater h = absurd (h refl)
+
+pub owner_not_greater : (a : Owner) → owner_cmp a a ≢ Greater
+owner_not_greater a e = let h : owner_cmp a a ≡ Equal = tied_itself owners_total a in absurd cc
+
+module _ {K : Type 0} (R : K → K → Ordering) (total : IsTotalOrder R) where
+  pub not_greater_trans : (a b c : K) → R a b ≢ Greater → R b c ≢ Greater → R a c ≢ Greater
+  not_greater_trans a b c p q e = elim (cases_not_greater (R a b) p) [
+    | inl less ↦ elim (cases_not_greater (R b c) q) [
+      | inl more ↦ let h = total.trans a b c less more in absurd cc
+      | inr same ↦
+          let back : R c b ≡ Equal = total.antisymm c b ∙ ap ordering_reverse same in
+          let h : R c a ≡ R b a = total.congr c b a back in
+          let f : R a c ≡ R a b = total.antisymm a c ∙ ap ordering_reverse h ∙ sym (total.antisymm a b) in
+          absurd cc
+    ]
+    | inr same ↦ let h : R a c ≡ R b c = total.congr a b c same in absurd (q (sym h ∙ e))
+  ]
+
+  pub back_less : (a b : K) → R a b ≡ Greater → R b a ≡ Less
+  back_less a b h = total.antisymm b a ∙ ap ordering_reverse h
+
+  pub back_greater : (a b : K) → R a b ≡ Less → R b a ≡ Greater
+  back_greater a b h = total.antisymm b a ∙ ap ordering_reverse h
+
+  pub greater_trans : (a b c : K) → R a b ≡ Greater → R b c ≡ Greater → R a c ≡ Greater
+  greater_trans a b c p q = back_greater c a (total.trans c b a (back_less b c q) (back_less a b p))
+
+-- an owner in a file, as a place among the rows
+abbrev pub Place : Type 0
+Place = ℕ × Owner
+
+-- the order of places: by file, then by flag, then by owner
+abbrev pub place_cmp : Place → Place → Ordering
+place_cmp a b = ordering_then (nat_cmp (mark_of a.0 a.1) (mark_of b.0 b.1)) (owner_cmp a.1 b.1)
+
+pub places_total : IsTotalOrder place_cmp
+places_total = then_total (on_total (λ (p : Place). mark_of p.0 p.1) nat_cmp_total) (on_total (λ (p : Place). p.1) owners_total)
+
+-- files are equal where their owners and their marks are
+file_equal : (f g : ℕ) (o p : Owner) → o ≡ p → mark_of f o ≡ mark_of g p → f ≡ g
+file_equal f g o p owners marks = let flags : flag_of o ≡ flag_of p = ap (λ (q : Owner). flag_of q) owners in omega arith
+
+pub place_equal : (a b : Place) → place_cmp a b ≡ Equal → (a.0 ≡ b.0) × (a.1 ≡ b.1)
+place_equal a b h =
+    let parts = then_equal _ _ h in
+    let owners = owner_equal _ _ parts.1 in
+    (file_equal a.0 b.0 a.1 b.1 owners (nat_cmp_equal _ _ parts.0), owners)
+
+pub place_itself : (f : ℕ) (o : Owner) → place_cmp (f, o) (f, o) ≡ Equal
+place_itself f o = tied_itself places_total (f, o)
 
 -- whether the row is of this owner in this file
 abbrev pub is_of : OwnerLocks → ℕ → Owner → Bool
@@ -297,3 +409,193 @@ row_alone (s ∷ rest) zero zero file owner r q at is also same = is ∙ sym sam
 row_alone (s ∷ rest) zero (suc j) file owner r q at is also same = absurd (let no : ⊥ = cc (at, also.0) in no)
 row_alone (s ∷ rest) (suc i) zero file owner r q at is also same = absurd (let no : ⊥ = cc (at.0, also) in no)
 row_alone (s ∷ rest) (suc i) (suc j) file owner r q at is also same = row_alone rest i j file owner r q at.1 is also.1 same
+
+-- a row behind a place has the same mark or a greater one
+pub after_mark : (r : OwnerLocks) (f : ℕ) (o : Owner) → row_cmp r f o ≡ Greater → mark_of f o ≤ mark_of r.file r.owner
+after_mark r f o h = elim (cases_lt (mark_of r.file r.owner) (mark_of f o)) [
+  | inl lt ↦ let less : row_cmp r f o ≡ Less = rw (lt-ltb (mark_of r.file r.owner) (mark_of f o) lt) refl in absurd cc
+  | inr le ↦ le
+]
+
+pub some_row : (l : List OwnerLocks) → 0 < length l → OwnerLocks
+some_row [] h = absurd (omega arith)
+some_row (r ∷ rest) h = r
+
+-- marks rise along the rows
+pub marks_rise : (l : List OwnerLocks) → AreRows l → IsNonDecreasingBy (λ (r : OwnerLocks). mark_of r.file r.owner) l
+marks_rise [] rows i j d le lt = absurd (omega arith)
+marks_rise (r ∷ rest) rows zero zero d le lt = omega arith
+marks_rise (r ∷ rest) rows zero (suc j) d le lt = mark_after rest j rows.1 (omega arith)
+  where
+    mark_after : (l : List OwnerLocks) (j : ℕ) → AllAfter r.file r.owner l → j < length l → mark_of r.file r.owner ≤ mark_of (get_or l j d).file (get_or l j d).owner
+    mark_after [] j h lt = absurd (omega arith)
+    mark_after (s ∷ l) zero h lt = after_mark s r.file r.owner h.0
+    mark_after (s ∷ l) (suc j) h lt = mark_after l j h.1 (omega arith)
+marks_rise (r ∷ rest) rows (suc i) zero d le lt = absurd (omega arith)
+marks_rise (r ∷ rest) rows (suc i) (suc j) d le lt = marks_rise rest rows.2 i j d (omega arith) (omega arith)
+
+-- files rise with marks
+mark_file : (f g : ℕ) (o p : Owner) → mark_of f o ≤ mark_of g p → f ≤ g
+mark_file f g o p le = omega arith
+
+-- files rise along the rows
+pub files_rise : (l : List OwnerLocks) → AreRows l → IsNonDecreasingBy (λ (r : OwnerLocks). r.file) l
+files_rise l rows i j d le lt = mark_file _ _ (get_or l i d).owner (get_or l j d).owner (marks_rise l rows i j d le lt)
+
+-- the first or the last ones of rows that stand behind a place stand behind it
+all_after-take : (l : List OwnerLocks) (n : ℕ) (f : ℕ) (o : Owner) → AllAfter f o l → AllAfter f o (take n l)
+all_after-take [] zero f o h = tt
+all_after-take [] (suc n) f o h = tt
+all_after-take (s ∷ rest) zero f o h = tt
+all_after-take (s ∷ rest) (suc n) f o h = (h.0, all_after-take rest n f o h.1)
+
+pub rows-take : (l : List OwnerLocks) (n : ℕ) → AreRows l → AreRows (take n l)
+rows-take [] zero rows = tt
+rows-take [] (suc n) rows = tt
+rows-take (s ∷ rest) zero rows = tt
+rows-take (s ∷ rest) (suc n) rows = (rows.0, all_after-take rest n s.file s.owner rows.1, rows-take rest n rows.2)
+
+pub rows-drop : (l : List OwnerLocks) (n : ℕ) → AreRows l → AreRows (drop n l)
+rows-drop [] zero rows = tt
+rows-drop [] (suc n) rows = tt
+rows-drop (s ∷ rest) zero rows = rows
+rows-drop (s ∷ rest) (suc n) rows = rows-drop rest n rows.2
+
+pub held_other : (r : OwnerLocks) (rest : List OwnerLocks) (f : ℕ) (o : Owner) → (r.file ≡ f → ⊥) → rows_held (r ∷ rest) f o ≡ rows_held rest f o
+unfolding rows_held
+held_other r rest f o differ = rw (and_left (eqb r.file f) (same_owner r.owner o) (ne_eqb r.file f differ)) refl
+
+held-drop : (l : List OwnerLocks) (n : ℕ) (f : ℕ) (o : Owner) → AllWithin (λ (r : OwnerLocks). ltb r.file f ≡ true) l 0 n → rows_held (drop n l) f o ≡ rows_held l f o
+held-drop [] zero f o below = refl
+held-drop [] (suc n) f o below = refl
+held-drop (r ∷ rest) zero f o below = refl
+held-drop (r ∷ rest) (suc n) f o below =
+    let lower : r.file < f = ltb-true _ _ (below 0 r (omega arith) (omega arith)) in
+    held-drop rest n f o (λ k d low lt. below (suc k) d (omega arith) (omega arith)) ∙ sym (held_other r rest f o (λ e. absurd (omega arith)))
+
+held-take : (l : List OwnerLocks) (n : ℕ) (f : ℕ) (o : Owner) → AllWithin (λ (r : OwnerLocks). leb r.file f ≡ false) l n (length l) → rows_held (take n l) f o ≡ rows_held l f o
+unfolding rows_held
+held-take [] zero f o above = refl
+held-take [] (suc n) f o above = refl
+held-take (r ∷ rest) zero f o above =
+    let higher : f < r.file = leb-false _ _ (above 0 r (omega arith) (omega arith)) in
+    held-take rest zero f o (λ k d low lt. above (suc k) d (omega arith) (omega arith)) ∙ sym (held_other r rest f o (λ e. absurd (omega arith)))
+held-take (r ∷ rest) (suc n) f o above = rw (held-take rest n f o (λ k d low lt. above (suc k) d (omega arith) (omega arith))) refl
+
+-- the rows of file f: the ones from the first that isn't of a lower file to the first of a higher one
+module _ (l : List OwnerLocks) (f start end : ℕ) (rows : AreRows l) (within : end ≤ length l) (below : AllWithin (λ (r : OwnerLocks). ltb r.file f ≡ true) l 0 start) (from : AllWithin (λ (r : OwnerLocks). ltb r.file f ≡ false) l start (length l)) (to : AllWithin (λ (r : OwnerLocks). leb r.file f ≡ true) l 0 end) (above : AllWithin (λ (r : OwnerLocks). leb r.file f ≡ false) l end (length l)) where
+  pub part_order : start ≤ length l → start ≤ end
+  part_order le = elim (cases_lt end start) [
+    | inl lt ↦
+        let d = some_row l (omega arith) in
+        let low = ltb-true _ _ (below end d (omega arith) lt) in
+        let high = leb-false _ _ (above end d (omega arith) (omega arith)) in
+        absurd (omega arith)
+    | inr le ↦ le
+  ]
+
+  pub part_rows : AreRows (take (end - start) (drop start l))
+  part_rows = rows-take (drop start l) (end - start) (rows-drop l start rows)
+
+  pub part_file : All (λ (r : OwnerLocks). r.file ≡ f) (take (end - start) (drop start l))
+  part_file k d lt =
+      let count = length-take (end - start) (drop start l) in
+      let left = length-drop start l in
+      let e : get_or (take (end - start) (drop start l)) k d ≡ get_or l (start + k) d = get_or-take (end - start) (drop start l) k d (omega arith) ∙ get_or-drop start l k d in
+      let low = ltb-false _ _ (from (start + k) d (omega arith) (omega arith)) in
+      let high = leb-true _ _ (to (start + k) d (omega arith) (omega arith)) in
+      rw e (omega arith)
+
+  pub part_held : (o : Owner) → rows_held (take (end - start) (drop start l)) f o ≡ rows_held l f o
+  part_held o = held-take (drop start l) (end - start) f o (λ k d low lt. rw (get_or-drop start l k d) (above (start + k) d (omega arith) (omega (arith, length-drop start l)))) ∙ held-drop l start f o below
+
+-- the element at i is the first of the list from i on
+pub drop_read : {A : Type 0} (l : List A) (i : ℕ) (x : A) → i < length l → x ≡ get_or l i x → drop i l ≡ x ∷ drop (i + 1) l
+drop_read l i x lt is = drop_more l i x lt ∙ rw (← is) refl
+
+-- the first row has the locks of its place
+pub held_first : (r : OwnerLocks) (rest : List OwnerLocks) → rows_held (r ∷ rest) r.file r.owner ≡ value_at r.spans
+unfolding rows_held
+held_first r rest = let itself : is_of r r.file r.owner ≡ true = and_from (eqb r.file r.file) (same_owner r.owner r.owner) (eq-eqb r.file r.file refl) (owner_refl r.owner) in rw itself refl
+
+-- rows that are equal one by one hold the same locks
+pub same_held : (a b : List OwnerLocks) → AllZip IsSameRow a b → (f : ℕ) (o : Owner) → rows_held a f o ≡ rows_held b f o
+unfolding rows_held
+same_held [] [] h f o = refl
+same_held [] (s ∷ b) h f o = absurd h
+same_held (r ∷ a) [] h f o = absurd h
+same_held (r ∷ a) (s ∷ b) h f o = rw (h.0.file, h.0.owner, h.0.bytes, same_held a b h.1 f o) refl
+
+cases_ordering : (o : Ordering) → (o ≡ Less) ⊎ ((o ≡ Equal) ⊎ (o ≡ Greater))
+cases_ordering Less = inl refl
+cases_ordering Equal = inr (inl refl)
+cases_ordering Greater = inr (inr refl)
+
+-- another place than the first row's has the locks of the other rows
+held_past : (r : OwnerLocks) (rest : List OwnerLocks) (f : ℕ) (o : Owner) → is_of r f o ≡ false → rows_held (r ∷ rest) f o ≡ rows_held rest f o
+unfolding rows_held
+held_past r rest f o differ = rw differ refl
+
+-- rows that hold the same locks are equal one by one
+pub held_same : (a b : List OwnerLocks) → AreRows a → AreRows b → ((f : ℕ) (o : Owner) → rows_held a f o ≡ rows_held b f o) → AllZip IsSameRow a b
+unfolding rows_held
+held_same [] [] p q e = tt
+held_same [] (s ∷ b) p q e = absurd (q.0.some (sym (held_first s b) ∙ sym (e s.file s.owner)))
+held_same (r ∷ a) [] p q e = absurd (p.0.some (sym (held_first r a) ∙ e r.file r.owner))
+held_same (r ∷ a) (s ∷ b) p q e = elim (cases_ordering (row_cmp r s.file s.owner)) [
+  | inl less ↦
+      let after : row_cmp s r.file r.owner ≡ Greater = back_greater place_cmp places_total (r.file, r.owner) (s.file, s.owner) less in
+      let all : AllAfter r.file r.owner (s ∷ b) = (after, all_after_trans s.file r.file s.owner r.owner b after q.1) in
+      absurd (p.0.some (sym (held_first r a) ∙ e r.file r.owner ∙ held-none (s ∷ b) r.file r.owner all))
+  | inr (inl equal) ↦
+      let at = place_equal (r.file, r.owner) (s.file, s.owner) equal in
+      let bytes : value_at r.spans ≡ value_at s.spans = sym (held_first r a) ∙ e r.file r.owner ∙ rw (at.0, at.1) (held_first s b) in
+      (record { file = at.0; owner = at.1; bytes = bytes }, held_same a b p.2 q.2 (λ f o. rest at.0 at.1 f o))
+  | inr (inr greater) ↦
+      let all : AllAfter s.file s.owner (r ∷ a) = (greater, all_after_trans r.file s.file r.owner s.owner a greater p.1) in
+      absurd (q.0.some (sym (held_first s b) ∙ sym (e s.file s.owner) ∙ held-none (r ∷ a) s.file s.owner all))
+]
+  where
+    rest : r.file ≡ s.file → r.owner ≡ s.owner → (f : ℕ) (o : Owner) → rows_held a f o ≡ rows_held b f o
+    rest files owners f o = elim (cases_Bool (is_of r f o)) [
+      | inl this ↦
+          let at = row_place r f o this in
+          let first : rows_held a f o ≡ nothing = rw (← at.0, ← at.1) (held-none a r.file r.owner p.1) in
+          let second : rows_held b f o ≡ nothing = rw (← at.0, ← at.1, files, owners) (held-none b s.file s.owner q.1) in
+          first ∙ sym second
+      | inr differ ↦
+          let other : is_of s f o ≡ false = rw (← files, ← owners) differ in
+          sym (held_past r a f o differ) ∙ e f o ∙ held_past s b f o other
+    ]
+
+-- two lists of rows are equal one by one exactly where these parts of them are
+pub record Left (a b xs ys : List OwnerLocks) : Type 0 where
+  pub to : AllZip IsSameRow xs ys → AllZip IsSameRow a b
+  pub from : AllZip IsSameRow a b → AllZip IsSameRow xs ys
+
+module _ (a b xs ys more rest : List OwnerLocks) (x y : OwnerLocks) (is_x : xs ≡ x ∷ more) (is_y : ys ≡ y ∷ rest) (left : Left a b xs ys) where
+  pub left-more : IsSameRow x y → Left a b more rest
+  left-more same = record {
+    to = λ h. left.to (rw (is_x, is_y) (same, h));
+    from = λ h. (rw (is_x, is_y) at (left.from h)).1;
+  }
+
+  pub left-differ : (IsSameRow x y → ⊥) → AllZip IsSameRow a b → ⊥
+  left-differ differ h = differ (rw (is_x, is_y) at (left.from h)).0
+
+-- where one part has no row left, both are equal exactly where the other has none either
+pub left-longer : (a b xs ys rest : List OwnerLocks) (y : OwnerLocks) → xs ≡ [] → ys ≡ y ∷ rest → Left a b xs ys → AllZip IsSameRow a b → ⊥
+left-longer a b xs ys rest y none is left h = rw (none, is) at (left.from h)
+
+pub left-shorter : (a b xs ys more : List OwnerLocks) (x : OwnerLocks) → xs ≡ x ∷ more → ys ≡ [] → Left a b xs ys → AllZip IsSameRow a b → ⊥
+left-shorter a b xs ys more x is none left h = rw (is, none) at (left.from h)
+
+pub left-end : (a b xs ys : List OwnerLocks) → xs ≡ [] → ys ≡ [] → Left a b xs ys → AllZip IsSameRow a b
+left-end a b xs ys none nothing_left left = left.to (rw (none, nothing_left) tt)
+
+-- the blocks of a table, when it is given by its parts
+pub blocks_are : (blocks : List (List OwnerLocks)) (limit : ℕ) (t : TableParts) → record { blocks = blocks; limit = limit } ≡ t → blocks ≡ t.blocks
+blocks_are blocks limit t is = ap (λ (u : TableParts). u.blocks) is
+
+pub limit_is : (blocks : List (List OwnerLocks)) (limit : ℕ) (t : TableParts) → record { blocks = blocks; limit = limit } ≡ t → limit ≡ t.limit
+limit_is blocks limit t is = ap (λ (u : TableParts). u.limit) is

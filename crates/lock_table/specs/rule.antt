@@ -1,2 +1,1 @@
 pub mod Tables
-pub mod Listing

@@ -4,12 +4,11 @@
 ghost use Rattle.std.specs.Prelude.{◌≡◌, ◌≤◌, ◌<◌, nat_le, [], length, take, drop, insert, remove, filter, not, IfOk};
 ghost use Rattle.std.specs.Vec.{vec_capacity};
 ghost use Rattle.model.specs.rule.Owners.{same_owner};
-ghost use Rattle.lock_table.specs.code.Blocks.{begins_to, first_file, IsRowWritten};
+ghost use Rattle.lock_table.specs.code.Rows.{begins_to, first_file, IsRowWritten};
 
 use crate::owner_locks::OwnerLocks;
 use intervals::span_edit::SpanEdit;
-use model::mode::Mode;
-use model::owner::Owner;
+use model::{Mode, Owner};
 use std::alloc::{AllocError, Global};
 use std::marker::Model;
 

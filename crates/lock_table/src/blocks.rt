@@ -3,12 +3,12 @@ ghost use Rattle.std.specs.Prelude.{◌≡◌, ◌≤◌, ◌<◌, ◌+◌, ◌-
 ghost use Rattle.std.specs.Vec.{vec_len, vec_capacity};
 ghost use Rattle.model.specs.rule.Owners.{same_owner};
 ghost use Rattle.lock_table.specs.rule.Tables.{all_rows};
-ghost use Rattle.lock_table.specs.code.Blocks.{AreSome, HasRoom, rows_before};
+ghost use Rattle.lock_table.specs.code.Rows.{AreSome, HasRoom, rows_before};
 
 use crate::block::Block;
 use crate::owner_locks::OwnerLocks;
 use crate::place::Place;
-use model::owner::Owner;
+use model::Owner;
 use std::alloc::{AllocError, Global};
 
 /// Memory for one more block of a table: a block without rows, and a list with places for all

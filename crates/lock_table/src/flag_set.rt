@@ -1,7 +1,7 @@
 //! Sets of 256 flags, as bits of four words.
 ghost use Rattle.std.specs.Prelude.{◌≡◌, ℕ, ◌<◌, ◌≤◌, ◌/◌, IsTrue, ◌↔◌};
 ghost use Rattle.std.specs.Int.{bit_at};
-ghost use Rattle.lock_table.specs.code.Pages.{HasFlag};
+ghost use Rattle.lock_table.specs.code.Rows.{HasFlag};
 
 // The number of flags in a word.
 const WORD: usize = 64;

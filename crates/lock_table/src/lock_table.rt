@@ -4,9 +4,8 @@ ghost use Rattle.intervals.specs.rule.Bytes.{nothing, put};
 ghost use Rattle.model.specs.rule.Locks.{no_locks, with_lock, without_owner, without_owner_anywhere, regions};
 ghost use Rattle.model.specs.declared.mode.Mode.{Mode as SomeMode};
 ghost use Rattle.lock_table.specs.declared.error.LockError.TheVariants.{NoLocks};
-ghost use Rattle.lock_table.specs.code.Rows.{IsSameTable, HoldsLess};
+ghost use Rattle.lock_table.specs.code.Rows.{IsSameTable, HoldsLess, HasFlag};
 ghost use Rattle.lock_table.specs.rule.Tables.{held};
-ghost use Rattle.lock_table.specs.code.Pages.{HasFlag};
 
 use crate::block::Block;
 use crate::blocks::{RowRoom, copies, drop_rows, remove_row};
@@ -16,8 +15,7 @@ use crate::page_index::PageIndex;
 use crate::place::{Place, position, same_rows};
 use intervals::span::Span;
 use intervals::span_edit::SpanEdit;
-use model::mode::Mode;
-use model::owner::Owner;
+use model::{Mode, Owner};
 use std::alloc::{AllocError, Global};
 use std::marker::Model;
 
@@ -44,10 +42,8 @@ pub struct LockTable {
 }
 
 impl Model for LockTable {
-    ghost use Rattle.lock_table.specs.code.Rows.{AreRows};
+    ghost use Rattle.lock_table.specs.code.Rows.{AreRows, AreSome, Covers};
     ghost use Rattle.lock_table.specs.rule.Tables.{TableParts, all_rows, rows_held};
-    ghost use Rattle.lock_table.specs.code.Blocks.{AreSome};
-    ghost use Rattle.lock_table.specs.code.Pages.{Covers};
 
     ghost Value = { TableParts };
 

@@ -1,9 +1,9 @@
 //! The order of regions: by first byte, then by owner.
 ghost use Rattle.std.specs.Prelude.{◌≡◌, ◌⊎◌, IfSome, IsSomeAnd};
 ghost use Rattle.model.specs.rule.Locks.{IsNotAfter};
-ghost use Rattle.lock_table.specs.code.Listing.{lock_cmp};
+ghost use Rattle.lock_table.specs.code.Blockers.{lock_cmp};
 
-use model::lock_info::LockInfo;
+use model::LockInfo;
 use std::cmp::Ordering;
 
 /// How region a stands to region b: by first byte, then by owner.

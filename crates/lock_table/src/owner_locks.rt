@@ -2,18 +2,14 @@
 ghost use Rattle.std.specs.Prelude.{◌≡◌, ℕ, ◌++◌, List, None, Some, false, IsTrue, ◌↔◌, IfOk, OnOk, MatchOption};
 ghost use Rattle.intervals.specs.rule.Bytes.{IsBarred, IsRun, NoneIn};
 ghost use Rattle.intervals.specs.rule.Runs.{value_at};
-ghost use Rattle.lock_table.specs.code.Rows.{mark_cmp, IsSameRow, locks_of, IsBounded, NothingFrom};
-ghost use Rattle.lock_table.specs.code.Regions.{rest_from, IsFirstRegion};
+ghost use Rattle.lock_table.specs.code.Rows.{mark_cmp, IsSameRow, locks_of, IsBounded, NothingFrom, rest_from, IsFirstRegion, Has};
 ghost use Rattle.lock_table.specs.code.Blockers.{IsLowestBut};
-ghost use Rattle.lock_table.specs.code.Pages.{Has};
-ghost use Rattle.lock_table.specs.rule.Listing.{ListsRegions};
+ghost use Rattle.lock_table.specs.rule.Tables.{ListsRegions};
 
 use crate::owner_set::{OwnerSet, mark_of};
 use crate::owner_spans::OwnerSpans;
 use intervals::span::{GREATEST, Span};
-use model::lock_info::LockInfo;
-use model::mode::Mode;
-use model::owner::Owner;
+use model::{LockInfo, Mode, Owner};
 use std::alloc::AllocError;
 use std::cmp::Ordering;
 

@@ -1,11 +1,10 @@
 //! Sets of owners that can have more owners than were added.
 ghost use Rattle.std.specs.Prelude.{◌≡◌, ◌<◌, ◌≤◌, IsTrue, ◌↔◌};
 ghost use Rattle.model.specs.declared.owner.Owner.{Owner as SomeOwner};
-ghost use Rattle.lock_table.specs.code.Pages.{flag_of, Has};
-ghost use Rattle.lock_table.specs.code.Rows.{mark_of};
+ghost use Rattle.lock_table.specs.code.Rows.{flag_of, Has, mark_of};
 
 use crate::flag_set::FlagSet;
-use model::owner::Owner;
+use model::Owner;
 
 /// A set of owners. Each owner has one of 256 flags, which it shares with others, so the set can
 /// have more owners than were added.

@@ -13,7 +13,7 @@ use intervals::span::Span;
 use intervals::span_edit::SpanEdit;
 use intervals::span_map::SpanMap;
 use intervals::tree_map::TreeMap;
-use model::mode::Mode;
+use model::Mode;
 use std::alloc::{AllocError, Global};
 use std::marker::Model;
 

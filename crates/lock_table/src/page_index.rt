@@ -7,7 +7,7 @@ ghost use Rattle.intervals.specs.rule.Runs.{value_at};
 ghost use Rattle.model.specs.declared.mode.Mode.{Mode as SomeMode};
 ghost use Rattle.model.specs.declared.owner.Owner.{Owner as SomeOwner};
 ghost use Rattle.lock_table.specs.rule.Tables.{all_rows, rows_held};
-ghost use Rattle.lock_table.specs.code.Pages.{Has, HasFlag, HasFile, MayHold, HasPage, IsKept, Covers, slot_of};
+ghost use Rattle.lock_table.specs.code.Rows.{Has, HasFlag, HasFile, MayHold, HasPage, IsKept, Covers, slot_of};
 
 use crate::block::Block;
 use crate::flag_set::FlagSet;
@@ -15,8 +15,7 @@ use crate::owner_locks::OwnerLocks;
 use crate::owner_set::{OwnerSet, flag_of};
 use intervals::span::Span;
 use intervals::span_edit::SpanEdit;
-use model::mode::Mode;
-use model::owner::Owner;
+use model::{Mode, Owner};
 use std::alloc::{AllocError, Global};
 
 // The least number of bytes in a page, and how many more a page has in an index without notes.

@@ -1,14 +1,13 @@
 //! Places of rows in the blocks of a lock table, and the searches for them.
 ghost use Rattle.std.specs.Prelude.{◌≡◌, ◌≤◌, ◌<◌, ◌+◌, ◌++◌, ◌∷◌, [], true, nat_lt, All, IfSome, IsTrue, ◌↔◌, MatchOption, length, get_or, take, drop};
 ghost use Rattle.std.specs.List.{AllWithin, AllZip};
-ghost use Rattle.lock_table.specs.code.Rows.{mark_of as mark_at, AllAfter, AreRows, ArePassed, IsSameRow};
+ghost use Rattle.lock_table.specs.code.Rows.{mark_of as mark_at, AllAfter, AreRows, ArePassed, IsSameRow, AllBefore, AreSome, IsPlaced, IsRowOf};
 ghost use Rattle.lock_table.specs.rule.Tables.{all_rows, rows_held};
-ghost use Rattle.lock_table.specs.code.Blocks.{AllBefore, AreSome, IsPlaced, IsRowOf};
 
 use crate::block::Block;
 use crate::owner_locks::OwnerLocks;
 use crate::owner_set::{OwnerSet, flag_of, mark_of};
-use model::owner::Owner;
+use model::Owner;
 
 /// A place of a row: the number of its block, and the place in it, each from 0.
 #[derive(Clone, Copy)]

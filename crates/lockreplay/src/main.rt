@@ -1,10 +1,8 @@
 //! `lockreplay` runs scripts of record locks in a cluster and prints what came of them.
 #![tactic(auto)]
 
-use replay::disk::Disk;
-use replay::meter::Meter;
-use replay::respond::{refuse, respond};
-use replay::words::read_words;
+use replay::respond::{read_words, refuse, respond};
+use replay::{Disk, Meter};
 use seat_commands::attend::attend;
 use std::io::IsTerminal;
 use std::process::ExitCode;

@@ -11,9 +11,8 @@ use Rattle.messages.specs.declared.version.Version.TheVariants.{Second}
 use Rattle.texts.specs.rule.Reads.{Reads, Both, after_text, pair_text}
 use Rattle.lockscript.specs.rule.Scripts.{IsScriptShape, IsShapeOf, counts_text, shape_text}
 use Rattle.texts.specs.rule.Words.{policy_text}
-use Rattle.message_text.proofs.AreTexts.{AreTexts, both, viewed}
-use Rattle.message_text.proofs.FieldTexts.{file}
-use Rattle.message_text.proofs.Views.{Views, view-unfit}
+use Rattle.message_text.proofs.NameTexts.{AreTexts, both, viewed, Views, view-unfit}
+use Rattle.message_text.proofs.MessageKinds.{file}
 use Rattle.lockscript.proofs.FieldTexts.{behind, node, policy as policies}
 
 abbrev pub IsCounts : ℕ × (ℕ × Policy) → Type 0

@@ -5,9 +5,8 @@ use Rattle.cluster_core.specs.rule.World.{most_incarnations}
 use Rattle.texts.proofs.FirstWords.{BeginsWithWord}
 use Rattle.lockscript.specs.declared.script_line.ScriptCommand.TheVariants.{Call, Deliver, Lose, Settle, Interrupt, Retry, Resend, Declare, Restart, Learn, FailServer, StartServer}
 use Rattle.lockscript.specs.rule.Scripts.{IsCommand, command_text, greatest_message}
-use Rattle.message_text.proofs.AreTexts.{AreTexts, both, up_to}
-use Rattle.message_text.proofs.FieldTexts.{file, pid}
-use Rattle.message_text.proofs.Variants.{Variant, of_variants, variant}
+use Rattle.message_text.proofs.NameTexts.{AreTexts, both, up_to, Variant, of_variants, variant}
+use Rattle.message_text.proofs.MessageKinds.{file, pid}
 use Rattle.lockscript.proofs.FieldTexts.{node, nothing}
 use Rattle.lockscript.proofs.OperationKinds.{op}
 

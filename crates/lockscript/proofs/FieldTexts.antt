@@ -12,8 +12,7 @@ use Rattle.texts.specs.rule.Words.{access_text, kind_text, policy_text}
 use Rattle.texts.proofs.FieldValues.{apart-access, apart-byte, apart-kind, apart-offset, apart-policy}
 use Rattle.texts.proofs.Pairs.{AllLack, apart-after}
 use Rattle.texts.proofs.SingleWords.{byte_words, kind_words, lacks-tested, offset_words}
-use Rattle.message_text.proofs.AreTexts.{AreFields, AreTexts, both, has_no_feed, number, up_to}
-use Rattle.message_text.proofs.Words.{lacks-append}
+use Rattle.message_text.proofs.NameTexts.{AreFields, AreTexts, both, has_no_feed, number, up_to, lacks-append}
 use Rattle.lockscript.specs.rule.Served.{IsDescriptor}
 use Rattle.lockscript.specs.rule.Texts.{segment_text}
 

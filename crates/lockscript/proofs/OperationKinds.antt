@@ -17,9 +17,8 @@ use Rattle.texts.specs.rule.Reads.{has_no_space}
 use Rattle.texts.proofs.FirstWords.{BeginsWithWord, first_word, is_among}
 use Rattle.lockscript.specs.rule.Served.{IsDescriptor, IsServedOp}
 use Rattle.lockscript.specs.rule.Texts.{command_front, lock_of, op_text}
-use Rattle.message_text.proofs.AreTexts.{AreTexts, both, has_no_feed, mode}
-use Rattle.message_text.proofs.FieldTexts.{file, pid}
-use Rattle.message_text.proofs.Variants.{Variant, is_of, of_variants, variant}
+use Rattle.message_text.proofs.NameTexts.{AreTexts, both, has_no_feed, mode, Variant, is_of, of_variants, variant}
+use Rattle.message_text.proofs.MessageKinds.{file, pid}
 use Rattle.lockscript.proofs.FieldTexts.{access, fd, kind, nothing, segment}
 
 abbrev OpKind : Type 1

@@ -3,10 +3,9 @@ ghost use Rattle.std.specs.Prelude.{codes};
 ghost use Rattle.texts.specs.rule.Reads.{Reads};
 ghost use Rattle.lockscript.specs.rule.Scripts.{IsScriptShape, IsShapeOf, counts_text, shape_text};
 
-use message_text::numbers::{FileField, NodeField};
-use messages::shape::Shape;
-use messages::version::Version;
-use model::policy::Policy;
+use message_text::{FileField, NodeField};
+use messages::{Shape, Version};
+use model::Policy;
 use texts::front::{After, Front};
 use texts::text::{Text, after};
 

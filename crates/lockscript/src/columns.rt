@@ -3,12 +3,12 @@ ghost use Rattle.std.specs.Prelude.{◌≡◌, ◌≤◌, ◌-◌, ◌++◌, cod
 ghost use Rattle.lockscript.specs.rule.Layout.{left_in, right_in};
 ghost use Rattle.texts.specs.rule.Layout.{space};
 ghost use Rattle.lockscript.specs.rule.Listing.{placed, span_columns};
-ghost use Rattle.message_text.specs.rule.Names.{call_text, host_text};
+ghost use Rattle.message_text.specs.rule.Texts.{call_text, host_text};
 
 use intervals::span::Span;
 use itoa::Buffer;
-use message_text::names::{CallName, push_host};
-use model::call::CallId;
+use message_text::{CallName, push_host};
+use model::CallId;
 use std::alloc::AllocError;
 use std::fmt::Write;
 use texts::text::Text;

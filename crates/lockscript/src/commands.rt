@@ -8,7 +8,7 @@ use crate::script_line::ScriptCommand::{
     Call, Declare, Deliver, FailServer, Interrupt, Learn, Lose, Resend, Restart, Retry, Settle,
     StartServer,
 };
-use message_text::numbers::{Counted, FileField, IncarnationField, NodeField, PidField};
+use message_text::{Counted, FileField, IncarnationField, NodeField, PidField};
 use texts::text::{Text, split_field};
 
 /// The operands of `call`: `N PID OP`.

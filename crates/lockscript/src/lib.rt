@@ -17,3 +17,15 @@ pub mod replies;
 pub mod script;
 pub mod script_line;
 pub mod writing;
+
+pub use cluster_line::{shape_of, shape_operands};
+pub use commands::command_of;
+pub use error::ParseError;
+pub use lines::{is_skipped, split_line};
+pub use listing::{listing_start, push_item};
+pub use operations::Operation;
+pub use play_error::PlayError;
+pub use refused_line::RefusedLine;
+pub use replies::push_reply;
+pub use script::Script;
+pub use script_line::{ScriptCommand, ScriptLine};

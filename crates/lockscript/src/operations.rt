@@ -5,12 +5,8 @@ ghost use Rattle.texts.specs.rule.Reads.{Lacks, Reads};
 ghost use Rattle.lockscript.specs.rule.Served.{IsServedOp};
 ghost use Rattle.lockscript.specs.rule.Texts.{lock_of, op_text};
 
-use message_text::numbers::{DescriptorField, FileField, PidField};
-use message_text::writing::push;
-use model::access::Access;
-use model::mode::Mode;
-use model::op::{LockCall, LockCommand, Op, ProcessCall};
-use model::owner::Kind;
+use message_text::{DescriptorField, FileField, PidField, push};
+use model::{Access, Kind, LockCall, LockCommand, Mode, Op, ProcessCall};
 use std::alloc::AllocError;
 use texts::text::{Text, split_field};
 

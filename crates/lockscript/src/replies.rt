@@ -4,8 +4,8 @@
 ghost use Rattle.std.specs.Prelude.{◌≡◌, ◌++◌, string_bytes, OnOk};
 ghost use Rattle.lockscript.specs.rule.Texts.{reply_text};
 
-use message_text::names::push_lock;
-use model::reply::Reply;
+use message_text::push_lock;
+use model::Reply;
 use std::alloc::AllocError;
 use texts::number::push_number;
 

@@ -10,7 +10,7 @@ use crate::commands::command_of;
 use crate::error::ParseError;
 use crate::lines::{Lines, NumberedLine};
 use crate::script_line::ScriptLine;
-use messages::shape::Shape;
+use messages::Shape;
 use std::alloc::Global;
 use std::marker::Model;
 

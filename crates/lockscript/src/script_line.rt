@@ -1,5 +1,5 @@
 //! The lines of scripts, and the commands that they give.
-use model::op::Op;
+use model::Op;
 use std::marker::Model;
 
 /// The command of a line of a script.

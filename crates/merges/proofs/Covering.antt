@@ -7,8 +7,8 @@ use Rattle.std.specs.Prelude.{slice_index_or}
 use Rattle.std.specs.List.{Contains}
 use Rattle.std.specs.List.Sorted.{IsPermutation}
 use Rattle.merges.specs.declared.logged.LoggedEntry.{LoggedEntry}
-use Rattle.merges.specs.rule.Logs.{LogFields}
-use Rattle.merges.specs.code.Mergers.{MergerFields, PutsOn, Covers, EndsFrom, last_moment}
+use Rattle.merges.specs.rule.Merges.{LogFields}
+use Rattle.merges.specs.code.Merging.{MergerFields, PutsOn, Covers, EndsFrom, last_moment}
 
 contains_cases : (x z : ℕ × ℕ) (xs : List (ℕ × ℕ)) → Contains (x ∷ xs) z → (x ≡ z) ⊎ Contains xs z
 contains_cases x z xs (zero, within, is) = inl is

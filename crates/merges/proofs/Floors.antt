@@ -12,9 +12,8 @@ use Rattle.cluster_core.specs.rule.Parts.{world_state}
 use Rattle.cluster_core.specs.rule.Journals.{RunFields}
 use Rattle.merges.specs.declared.logged.LoggedEntry.{LoggedEntry}
 use Rattle.merges.specs.declared.logged.LoggedChange.{LoggedChange}
-use Rattle.merges.specs.rule.Logs.{LogFields, AreOfDifferent, log_of}
-use Rattle.merges.specs.code.Merging.{begun, Allows, IsDone}
-use Rattle.merges.specs.code.Mergers.{MergerFields, IsMerger, IsExact, last_moment, merging_of, EndsFrom}
+use Rattle.merges.specs.rule.Merges.{LogFields, AreOfDifferent, log_of}
+use Rattle.merges.specs.code.Merging.{begun, Allows, IsDone, MergerFields, IsMerger, IsExact, last_moment, merging_of, EndsFrom}
 use Rattle.merges.proofs.LogLists.{log_there, of_logs}
 
 every : {A : Type 0} (P : A → Type 0) → ((x : A) → P x) → (xs : List A) → All P xs

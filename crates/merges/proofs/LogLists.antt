@@ -7,9 +7,8 @@ use Rattle.std.proofs.lemmas.List.{length-set}
 use Rattle.std.specs.Prelude.{◌==◌, slice_set, slice_index_or}
 use Rattle.messages.specs.declared.actor.Actor.{Actor}
 use Rattle.merges.specs.declared.logged.LoggedEntry.{LoggedEntry}
-use Rattle.merges.specs.rule.Logs.{LogFields, AreOfDifferent, same_actor, is_of, log_of}
-use Rattle.merges.specs.code.Merging.{with_left}
-use Rattle.merges.specs.code.Mergers.{with_entries}
+use Rattle.merges.specs.rule.Merges.{LogFields, AreOfDifferent, same_actor, is_of, log_of}
+use Rattle.merges.specs.code.Merging.{with_left, with_entries}
 use Rattle.merges.proofs.Counts.{same_is, is_same}
 use Rattle.merges.proofs.Swaps.{if_swapped}
 

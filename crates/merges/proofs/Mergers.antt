@@ -19,10 +19,8 @@ use Rattle.merges.specs.declared.logged.LoggedEntry.{LoggedEntry}
 use Rattle.merges.specs.declared.logged.LoggedChange.{LoggedChange}
 use Rattle.merges.specs.declared.merge_error.MergeError.{MergeError}
 use Rattle.merges.specs.declared.merge_error.MergeError.TheVariants.{NoMemory, TwoLogs, JournalFull, NoOrder}
-use Rattle.merges.specs.rule.Logs.{LogFields, AreOfDifferent, log_of}
-use Rattle.merges.specs.rule.Merges.{takes}
-use Rattle.merges.specs.code.Merging.{current, stands, is_there, with_left, EntryComes, Leads, IsDone, MergesFrom}
-use Rattle.merges.specs.code.Mergers.{MergerFields, IsMerger, MayBeTried, PutsOn, NoneFrom, TooLongFrom, IsStuck, LastAndNext, Longer, Fails, CannotCome, NoChangeComes, IsExact, with_entries, merging_of}
+use Rattle.merges.specs.rule.Merges.{LogFields, AreOfDifferent, log_of, takes}
+use Rattle.merges.specs.code.Merging.{current, stands, is_there, with_left, EntryComes, Leads, IsDone, MergesFrom, MergerFields, IsMerger, MayBeTried, PutsOn, NoneFrom, TooLongFrom, IsStuck, LastAndNext, Longer, Fails, CannotCome, NoChangeComes, IsExact, with_entries, merging_of}
 use Rattle.merges.proofs.Counts.{same_is, stands_that_steps}
 use Rattle.merges.proofs.Greedy.{merge_ends, ends_merge, ends_behind, leads_append}
 use Rattle.merges.proofs.Peeling.{peel, merged_done}

@@ -1,7 +1,7 @@
 -- The next declaration or start, put or not.
 use Rattle.std.proofs.Common.{◌≡◌, ℕ, true, refl, sym, subst, ◌∙◌, ap, List, [], ◌∷◌, slice_get, Some, None, Ok}
 use Rattle.std.proofs.lemmas.Bool.{and_from, and_parts}
-use Rattle.messages.specs.rule.Versions.{may_rebuild}
+use Rattle.messages.specs.rule.Shapes.{may_rebuild}
 use Rattle.messages.specs.declared.actor.Actor.{Actor}
 use Rattle.messages.specs.declared.actor.Actor.TheVariants.{Node as ANode, Server as AServer}
 use Rattle.messages.specs.declared.event.Event.{Event}
@@ -16,10 +16,8 @@ use Rattle.cluster_core.specs.rule.Journals.{RunFields, GoesOn}
 use Rattle.cluster_core.proofs.steps.Steps.{next_taken, kept_taken, next_step, declare_step, fail_step}
 use Rattle.merges.specs.declared.logged.LoggedEntry.{LoggedEntry}
 use Rattle.merges.specs.declared.logged.LoggedChange.{LoggedChange}
-use Rattle.merges.specs.rule.Logs.{LogFields, AreOfDifferent, log_of}
-use Rattle.merges.specs.rule.Merges.{ends}
-use Rattle.merges.specs.code.Merging.{Merging, current, is_there, next_of, Allows, ChangeComes}
-use Rattle.merges.specs.code.Mergers.{MergerFields, IsMerger, PutsOn, NoChangeComes, IsExact, merging_of}
+use Rattle.merges.specs.rule.Merges.{LogFields, AreOfDifferent, log_of, ends}
+use Rattle.merges.specs.code.Merging.{Merging, current, is_there, next_of, Allows, ChangeComes, MergerFields, IsMerger, PutsOn, NoChangeComes, IsExact, merging_of}
 use Rattle.merges.proofs.Counts.{same_is}
 use Rattle.merges.proofs.Swaps.{allows_change}
 use Rattle.merges.proofs.LogLists.{log_there, log_at}

@@ -7,10 +7,8 @@ use Rattle.cluster_core.specs.rule.World.{WorldState}
 use Rattle.cluster_core.specs.rule.Next.{next}
 use Rattle.cluster_core.specs.rule.Parts.{world_state}
 use Rattle.merges.specs.declared.logged.LoggedEntry.{LoggedEntry}
-use Rattle.merges.specs.rule.Logs.{LogFields, AreOfDifferent, log_of}
-use Rattle.merges.specs.rule.Merges.{takes}
-use Rattle.merges.specs.code.Merging.{Merging, current, is_there, Allows, EntryComes}
-use Rattle.merges.specs.code.Mergers.{MergerFields, MayBeTried, CannotCome, IsExact, merging_of}
+use Rattle.merges.specs.rule.Merges.{LogFields, AreOfDifferent, log_of, takes}
+use Rattle.merges.specs.code.Merging.{Merging, current, is_there, Allows, EntryComes, MergerFields, MayBeTried, CannotCome, IsExact, merging_of}
 use Rattle.merges.proofs.LogLists.{log_there}
 use Rattle.merges.proofs.Mergers.{there_that_steps}
 

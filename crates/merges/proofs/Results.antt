@@ -6,10 +6,8 @@ use Rattle.messages.specs.declared.entry.Entry.{Entry}
 use Rattle.cluster_core.specs.rule.World.{WorldState, journal_limit}
 use Rattle.merges.specs.declared.logged.LoggedEntry.{LoggedEntry}
 use Rattle.merges.specs.declared.logged.LoggedChange.{LoggedChange}
-use Rattle.merges.specs.rule.Logs.{Logs}
-use Rattle.merges.specs.rule.Merges.{IsMerge, AreMerged, NoneMerges, AllAreTooLong}
-use Rattle.merges.specs.code.Merging.{Merging, begun, Comes, Leads, IsDone, MergesFrom}
-use Rattle.merges.specs.code.Mergers.{MergerFields, PutsOn, NoneFrom, TooLongFrom, merging_of}
+use Rattle.merges.specs.rule.Merges.{Logs, IsMerge, AreMerged, NoneMerges, AllAreTooLong}
+use Rattle.merges.specs.code.Merging.{Merging, begun, Comes, Leads, IsDone, MergesFrom, MergerFields, PutsOn, NoneFrom, TooLongFrom, merging_of}
 use Rattle.merges.proofs.Worlds.{actor_of, patches}
 use Rattle.merges.proofs.Swaps.{patched_shape}
 use Rattle.merges.proofs.Alike.{step_of}

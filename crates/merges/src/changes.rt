@@ -1,11 +1,10 @@
 //! The list of declarations and starts.
 ghost use Rattle.std.specs.Prelude.{◌≡◌, ℕ, ◌+◌, ◌≤◌, ◌∷◌, [], All, List, MatchOption};
 ghost use Rattle.merges.specs.declared.logged.LoggedChange.{LoggedChange};
-ghost use Rattle.merges.specs.rule.Logs.{AreInOrder};
-ghost use Rattle.merges.specs.code.Mergers.{last_moment};
+ghost use Rattle.merges.specs.rule.Merges.{AreInOrder};
+ghost use Rattle.merges.specs.code.Merging.{last_moment};
 
-use crate::in_order::changes_are_in_order;
-use crate::logged::LoggedChange;
+use crate::{LoggedChange, changes_are_in_order};
 use std::marker::Model;
 
 /// The declarations and starts of all nodes and token servers, in their order. None had ended before the one before it.
@@ -19,7 +18,7 @@ pub struct Changes {
 impl Model for Changes {
     ghost use Rattle.std.specs.Prelude.{List, drop};
     ghost use Rattle.merges.specs.declared.logged.LoggedChange.{LoggedChange};
-    ghost use Rattle.merges.specs.rule.Logs.{AreInOrder};
+    ghost use Rattle.merges.specs.rule.Merges.{AreInOrder};
 
     ghost Value = { List LoggedChange };
 

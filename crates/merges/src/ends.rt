@@ -1,7 +1,7 @@
 //! Moments before which nothing that is left of logs had ended.
 ghost use Rattle.std.specs.Prelude.{◌≤◌, ℕ, List, IfOk, OnOk, length};
-ghost use Rattle.merges.specs.rule.Logs.{LogFields};
-ghost use Rattle.merges.specs.code.Mergers.{Covers, EndsFrom};
+ghost use Rattle.merges.specs.rule.Merges.{LogFields};
+ghost use Rattle.merges.specs.code.Merging.{Covers, EndsFrom};
 
 use crate::log::Log;
 use std::alloc::{AllocError, Global};

@@ -1,6 +1,6 @@
 //! Whether a clock went back.
 ghost use Rattle.std.specs.Prelude.{◌≡◌, ◌↔◌, IsTrue};
-ghost use Rattle.merges.specs.rule.Logs.{IsInOrder, AreInOrder};
+ghost use Rattle.merges.specs.rule.Merges.{IsInOrder, AreInOrder};
 
 use crate::logged::{LoggedChange, LoggedEntry};
 

@@ -1,12 +1,11 @@
 //! The log of an actor.
 ghost use Rattle.std.specs.Prelude.{◌≡◌, ℕ, ◌+◌, ◌≤◌, ◌∷◌, [], All, List, MatchOption};
 ghost use Rattle.merges.specs.declared.logged.LoggedEntry.{LoggedEntry};
-ghost use Rattle.merges.specs.rule.Logs.{IsInOrder};
-ghost use Rattle.merges.specs.code.Mergers.{last_moment};
+ghost use Rattle.merges.specs.rule.Merges.{IsInOrder};
+ghost use Rattle.merges.specs.code.Merging.{last_moment};
 
-use crate::in_order::entries_are_in_order;
-use crate::logged::LoggedEntry;
-use messages::actor::Actor;
+use crate::{LoggedEntry, entries_are_in_order};
+use messages::Actor;
 use std::marker::Model;
 
 /// What an actor wrote of one incarnation; a token server, of one epoch. No entry ended before the one before it.
@@ -21,7 +20,7 @@ pub struct Log {
 
 impl Model for Log {
     ghost use Rattle.std.specs.Prelude.{drop};
-    ghost use Rattle.merges.specs.rule.Logs.{LogFields, IsInOrder};
+    ghost use Rattle.merges.specs.rule.Merges.{LogFields, IsInOrder};
 
     ghost Value = { LogFields };
 

@@ -1,6 +1,5 @@
 //! What actors wrote of their steps, and what was written of declarations and starts.
-use messages::entry::Entry;
-use messages::event::MemberEvent;
+use messages::{Entry, MemberEvent};
 
 /// Two readings of a clock: what they are of came about no earlier than `began` and no later than `ended`.
 #[derive(Clone, Copy)]

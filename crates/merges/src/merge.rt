@@ -2,17 +2,12 @@
 ghost use Rattle.std.specs.Prelude.{◌≡◌, ℕ, Err, IfOk, OnOk};
 ghost use Rattle.messages.specs.declared.actor.Actor.{Actor};
 ghost use Rattle.cluster_core.specs.rule.Histories.{HasOneHistory};
-ghost use Rattle.merges.specs.rule.Logs.{AreOfDifferent, log_of};
-ghost use Rattle.merges.specs.rule.Merges.{AllAreTooLong, AreMerged, NoneMerges};
+ghost use Rattle.merges.specs.rule.Merges.{AreOfDifferent, log_of, AllAreTooLong, AreMerged, NoneMerges};
 ghost use Rattle.merges.specs.declared.merge_error.MergeError.TheVariants.{JournalFull, NoOrder, TwoLogs};
 
-use crate::changes::Changes;
-use crate::log::Log;
-use crate::merge_error::MergeError;
-use crate::merger::Merger;
-use crate::stuck::Stuck;
-use cluster_core::journal::Journal;
-use messages::shape::Shape;
+use crate::{Changes, Log, MergeError, Merger, Stuck};
+use cluster_core::Journal;
+use messages::Shape;
 use std::alloc::Global;
 
 /// The journal of a cluster of that shape that has the entries of these logs, and these declarations and starts, in an

@@ -2,7 +2,7 @@
 ghost use Rattle.std.specs.Prelude.{◌≡◌};
 ghost use Rattle.merges.specs.declared.merge_error.MergeError.TheVariants.{NoMemory};
 
-use messages::actor::Actor;
+use messages::Actor;
 use std::alloc::AllocError;
 use thiserror::Error;
 

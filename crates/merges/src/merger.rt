@@ -1,19 +1,12 @@
 //! A merge under way.
 ghost use Rattle.std.specs.Prelude.{◌≡◌, ◌<◌, ◌∷◌, [], true, false, None, Some, length, slice_get, slice_set, List, IfOk, IfErr, IfSome, OnOk};
 ghost use Rattle.merges.specs.declared.logged.LoggedEntry.{LoggedEntry};
-ghost use Rattle.merges.specs.rule.Logs.{LogFields, AreOfDifferent, log_of};
-ghost use Rattle.merges.specs.code.Merging.{Allows, begun};
-ghost use Rattle.merges.specs.code.Mergers.{IsMerger, CannotCome, Fails, FailsToBegin, IsExact, LastAndNext, Longer, MayBeTried, PutsOn, fields_of, merging_of, with_entries};
+ghost use Rattle.merges.specs.rule.Merges.{LogFields, AreOfDifferent, log_of};
+ghost use Rattle.merges.specs.code.Merging.{Allows, begun, IsMerger, CannotCome, Fails, FailsToBegin, IsExact, LastAndNext, Longer, MayBeTried, PutsOn, fields_of, merging_of, with_entries};
 
-use crate::changes::Changes;
-use crate::log::Log;
-use crate::merge_error::MergeError;
-use crate::names::second_of_two;
-use crate::steps::{is_current, takes, took};
-use cluster_core::run::Run;
-use cluster_core::world::JOURNAL_LIMIT;
-use messages::event::Event;
-use messages::shape::Shape;
+use crate::{Changes, Log, MergeError, is_current, second_of_two, takes, took};
+use cluster_core::{JOURNAL_LIMIT, Run};
+use messages::{Event, Shape};
 use std::alloc::{AllocError, Global};
 
 mod changing;

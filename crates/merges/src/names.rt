@@ -1,10 +1,9 @@
 //! Logs of one incarnation of an actor.
 ghost use Rattle.std.specs.Prelude.{◌≡◌, ◌<◌, ◌≤◌, true, false, ℕ, length, slice_index_or, MatchOption};
-ghost use Rattle.merges.specs.rule.Logs.{LogFields, AreOfDifferent, is_of};
+ghost use Rattle.merges.specs.rule.Merges.{LogFields, AreOfDifferent, is_of};
 
-use crate::log::Log;
-use crate::steps::same_actor;
-use messages::actor::Actor;
+use crate::{Log, same_actor};
+use messages::Actor;
 
 /// The name of a log that another log has, too.
 pub(crate) fn second_of_two(logs: &[Log]) -> Option<(Actor, u16)>

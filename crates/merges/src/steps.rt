@@ -9,11 +9,8 @@ ghost use Rattle.cluster_core.specs.rule.Journals.{GoesOn};
 ghost use Rattle.merges.specs.rule.Merges.{same_actor, takes, ends};
 ghost use Rattle.merges.specs.code.Merging.{current, is_there};
 
-use cluster_core::run::Run;
-use cluster_core::world::World;
-use messages::actor::Actor;
-use messages::event::{Event, MemberEvent};
-use messages::refusal::Refused;
+use cluster_core::{Run, World};
+use messages::{Actor, Event, MemberEvent, Refused};
 use std::alloc::{AllocError, Global};
 
 /// Whether both are the same actor.

@@ -1,5 +1,5 @@
 //! Where logs can't go on.
-use messages::actor::Actor;
+use messages::Actor;
 
 /// What is in the way of an entry, a declaration or a start that comes next.
 #[derive(Clone, Copy, Debug, PartialEq, Eq)]

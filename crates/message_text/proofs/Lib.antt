@@ -1,14 +1,3 @@
-pub mod OneField
-pub mod SingleWords
-pub mod Views
-pub mod AreTexts
 pub mod NameTexts
-pub mod SpanParts
-pub mod Words
-pub mod Commands
 pub mod ReportWords
-pub mod FieldTexts
-pub mod Variants
 pub mod MessageKinds
-pub mod ReportFields
-pub mod TextLaws

@@ -20,8 +20,7 @@ use Rattle.texts.proofs.FirstWords.{has_no_space-one}
 use Rattle.texts.proofs.Pairs.{AreApart}
 use Rattle.texts.proofs.SingleWords.{Lacks-decimal, one-word}
 use Rattle.message_text.specs.code.Reports.{IsRunsText, level_of, may_stand, run_words, runs_in, runs_of_words, with_byte, words_of}
-use Rattle.message_text.specs.rule.Served.{AreServedRuns, IsServedSpan}
-use Rattle.message_text.specs.rule.Texts.{run_text, runs_text}
+use Rattle.message_text.specs.rule.Texts.{AreServedRuns, IsServedSpan, run_text, runs_text}
 
 -- a word without a space is the only word of its text
 words_of-one : (word : List ℕ) → has_no_space word ≡ true → words_of word ≡ word ∷ []

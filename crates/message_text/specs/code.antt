@@ -1,4 +1,1 @@
 pub mod Reports
-pub mod Forms
-pub mod Parts
-pub mod OneText

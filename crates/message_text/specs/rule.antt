@@ -1,3 +1,1 @@
-pub mod Names
 pub mod Texts
-pub mod Served

@@ -3,7 +3,7 @@ ghost use Rattle.std.specs.Prelude.{◌≡◌};
 ghost use Rattle.messages.specs.declared.version.Version.{Version};
 ghost use Rattle.messages.specs.declared.version.Version.TheVariants.{First, Second};
 
-use messages::version::Version;
+use messages::Version;
 
 /// A version of texts, by a type.
 pub trait Edition {

@@ -1,25 +1,17 @@
 //! The fields of messages, as types.
 ghost use Rattle.std.specs.Prelude.{◌≡◌, ◌≢◌, ◌++◌, ◌∷◌, ℕ, List, decimal, string_bytes, MatchOption, OnOk, ⊤};
-ghost use Rattle.messages.specs.rule.Epochs.{IsRebuilt};
+ghost use Rattle.messages.specs.rule.Shapes.{IsRebuilt};
 ghost use Rattle.messages.specs.declared.version.Version.TheVariants.{First, Second};
 ghost use Rattle.texts.specs.rule.Layout.{space};
 ghost use Rattle.texts.specs.rule.Reads.{Both, Reads};
-ghost use Rattle.message_text.specs.rule.Names.{lock_text};
-ghost use Rattle.message_text.specs.rule.Served.{AreServedWants, IsCommandNumber, IsFile, IsServedLock, IsServedSpan};
-ghost use Rattle.message_text.specs.rule.Texts.{command_text, epoch_text, span_text, blocking_text, wants_text};
+ghost use Rattle.message_text.specs.rule.Texts.{lock_text, AreServedWants, IsCommandNumber, IsFile, IsServedLock, IsServedSpan, command_text, epoch_text, span_text, blocking_text, wants_text};
 
 use crate::edition::Edition;
 use crate::names::{OwnerName, push_lock};
 use crate::numbers::{Counted, EpochField, FileField, Offset, RebuiltField};
 use intervals::span::Span;
-use messages::command_number::CommandNumber;
-use messages::epoch_number::EpochNumber;
-use messages::file_number::FileNumber;
-use messages::message::Blocking;
-use messages::version::Version;
-use messages::wanted::Wanted;
-use model::lock_info::LockInfo;
-use model::mode::Mode;
+use messages::{Blocking, CommandNumber, EpochNumber, FileNumber, Version, Wanted};
+use model::{LockInfo, Mode};
 use std::alloc::AllocError;
 use std::fmt::Write;
 use std::marker::PhantomData;

@@ -1,22 +1,16 @@
 //! Laws that say what the types of a message's parts guarantee; each is the contract of a function
 //! that does nothing.
 ghost use Rattle.model.specs.rule.Limits.{IsCall};
-ghost use Rattle.messages.specs.rule.Epochs.{IsCommand, IsRebuilt};
+ghost use Rattle.messages.specs.rule.Shapes.{IsCommand, IsRebuilt};
 ghost use Rattle.messages.specs.declared.version.Version.TheVariants.{Second};
-ghost use Rattle.message_text.specs.rule.Served.{AreServedRuns, AreServedWants, IsHolder, IsServedLock, IsServedMessage, IsServedSpan};
+ghost use Rattle.message_text.specs.rule.Texts.{AreServedRuns, AreServedWants, IsHolder, IsServedLock, IsServedMessage, IsServedSpan};
 
 use intervals::span::Span;
-use messages::command_number::CommandNumber;
-use messages::epoch_number::EpochNumber;
-use messages::message::Message;
 use messages::message::Message::{
     Conflict, Deny, Freed, Grant, Hello, Released, Report, Request, Revoke, Taken,
 };
-use messages::token_run::{TokenRun, TokenRuns};
-use messages::wanted::Wanted;
-use model::call::CallId;
-use model::host::Host;
-use model::lock_info::LockInfo;
+use messages::{CommandNumber, EpochNumber, Message, TokenRun, TokenRuns, Wanted};
+use model::{CallId, Host, LockInfo};
 
 /// A call is within its limits.
 pub fn call_fits(call: CallId)

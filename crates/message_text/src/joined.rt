@@ -1,8 +1,8 @@
 //! Fields of two parts: a number, a mark, and a second part.
 ghost use Rattle.std.specs.Prelude.{◌≡◌, ◌≢◌, ◌<◌, ◌∷◌, ◌++◌, ℕ, List, MatchOption};
 ghost use Rattle.texts.specs.rule.Reads.{Both, Lacks, joined_text};
-ghost use Rattle.message_text.specs.rule.Names.{dot};
-ghost use Rattle.message_text.specs.code.Parts.{IsNoDigit, at_sign};
+ghost use Rattle.message_text.specs.rule.Texts.{dot};
+ghost use Rattle.message_text.specs.code.Reports.{IsNoDigit, at_sign};
 
 use std::alloc::AllocError;
 use std::marker::PhantomData;

@@ -15,3 +15,14 @@ mod operands;
 mod reports;
 pub mod writing;
 pub mod written_message;
+
+pub use edition::{Edition, FirstEdition, SecondEdition};
+pub use fields::LockText;
+pub use fits::{call_fits, lock_fits, message_fits};
+pub use message::{message_in, message_of};
+pub use names::{CallName, HostName, OwnerName, push_call, push_host, push_lock, server_of};
+pub use numbers::{
+    CountField, Counted, DescriptorField, FileField, IncarnationField, NodeField, PidField,
+};
+pub use writing::{push, push_message};
+pub use written_message::WrittenMessage;

@@ -1,8 +1,7 @@
 //! Reads messages from their texts, in either version.
 ghost use Rattle.std.specs.Prelude.{◌++◌, codes};
 ghost use Rattle.texts.specs.rule.Reads.{Reads};
-ghost use Rattle.message_text.specs.rule.Served.{IsServedMessage};
-ghost use Rattle.message_text.specs.rule.Texts.{message_text};
+ghost use Rattle.message_text.specs.rule.Texts.{IsServedMessage, message_text};
 
 use crate::edition::{Edition, FirstEdition, SecondEdition};
 use crate::fields::{EpochName, FileName, first_field};
@@ -13,8 +12,7 @@ use crate::operands::{
 };
 use crate::reports::are_runs;
 use crate::written_message::WrittenMessage;
-use messages::message::Message;
-use messages::version::Version;
+use messages::{Message, Version};
 use texts::text::{Text, split_field};
 
 /// The message whose text in this version this is, if there is one.

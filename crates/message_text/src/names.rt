@@ -2,19 +2,14 @@
 ghost use Rattle.std.specs.Prelude.{◌≡◌, ◌++◌, codes, string_bytes, OnOk};
 ghost use Rattle.model.specs.rule.Limits.{IsCall, IsOwner};
 ghost use Rattle.texts.specs.rule.Reads.{Reads};
-ghost use Rattle.message_text.specs.rule.Names.{call_text, holder_text, host_text, lock_text, owner_letter, owner_text, server_text};
-ghost use Rattle.message_text.specs.code.Parts.{AreServerParts};
-ghost use Rattle.message_text.specs.rule.Served.{IsHolder};
+ghost use Rattle.message_text.specs.rule.Texts.{call_text, holder_text, host_text, lock_text, owner_letter, owner_text, server_text, IsHolder};
+ghost use Rattle.message_text.specs.code.Reports.{AreServerParts};
 
 use crate::joined::{AtSign, Dot, Joined};
 use crate::numbers::{
     Counted, DescriptionField, EpochField, FileField, IncarnationField, NodeField, PidField,
 };
-use model::call::CallId;
-use model::host::Host;
-use model::lock_info::LockInfo;
-use model::mode::Mode;
-use model::owner::{Kind, Owner};
+use model::{CallId, Host, Kind, LockInfo, Mode, Owner};
 use std::alloc::AllocError;
 use texts::number::push_number;
 use texts::text::{Text, Word, after};

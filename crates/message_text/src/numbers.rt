@@ -1,8 +1,7 @@
 //! The numbers in the texts of messages, scripts and journals, with their limits.
 use intervals::span::GREATEST;
-use messages::command_number::MOST_EPOCHS;
-use messages::shape::MOST_FILES;
-use model::limits::{MOST_DESCRIPTIONS, MOST_NODES, MOST_PROCESSES};
+use messages::{MOST_EPOCHS, MOST_FILES};
+use model::{MOST_DESCRIPTIONS, MOST_NODES, MOST_PROCESSES};
 use texts::number::Within;
 
 /// The greatest number of a node.

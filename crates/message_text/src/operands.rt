@@ -2,7 +2,7 @@
 //! the required and the desired span.
 use crate::fields::{BlockingWord, EpochName, FileName, LockText, Numbered, SpanText, WantsText};
 use crate::names::{CallName, HostName};
-use model::mode::Mode;
+use model::Mode;
 
 /// The operands of a request: `F CALL KIND MODE R D`.
 pub(crate) type RequestFields = (FileName, (CallName, (BlockingWord, (Mode, WantsText))));

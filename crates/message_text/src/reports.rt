@@ -5,14 +5,13 @@
 ghost use Rattle.std.specs.Prelude.{◌≡◌, ◌≢◌, ◌++◌, ◌∷◌, [], ◌↔◌, ◌<◌, ◌^◌, ℕ, List, true, decimal, IsTrue, IfOk, MatchOption, OnOk, string_bytes};
 ghost use Rattle.messages.specs.declared.token_run.TokenRun.{TokenRun as Run};
 ghost use Rattle.message_text.specs.code.Reports.{IsRunsText, may_stand, run_words, runs_in, words_of};
-ghost use Rattle.message_text.specs.rule.Served.{IsServedSpan};
-ghost use Rattle.message_text.specs.rule.Texts.{runs_text};
+ghost use Rattle.message_text.specs.rule.Texts.{IsServedSpan, runs_text};
 
 use crate::fields::SpanText;
 use crate::numbers::Offset;
 use intervals::span::Span;
-use messages::token_run::{TokenRun, TokenRuns};
-use model::level::Level;
+use messages::{TokenRun, TokenRuns};
+use model::Level;
 use std::alloc::{AllocError, Global};
 use std::fmt::Write;
 use std::marker::Model;

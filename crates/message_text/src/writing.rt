@@ -3,8 +3,7 @@
 //! Each function here that can fail errs with `AllocError`, where a request for memory was refused.
 ghost use Rattle.std.specs.Prelude.{◌≡◌, ◌++◌, codes, decimal, string_bytes, true, OnOk};
 ghost use Rattle.texts.specs.rule.Reads.{pair_text};
-ghost use Rattle.message_text.specs.rule.Names.{holder_text};
-ghost use Rattle.message_text.specs.rule.Texts.{epoch_text, is_about_revoke, message_text, runs_text};
+ghost use Rattle.message_text.specs.rule.Texts.{holder_text, epoch_text, is_about_revoke, message_text, runs_text};
 
 use crate::edition::{Edition, FirstEdition, SecondEdition};
 use crate::operands::{
@@ -12,15 +11,11 @@ use crate::operands::{
     RequestFields, RevokeFields, TakenFields,
 };
 use crate::reports::push_runs;
-use messages::epoch_number::EpochNumber;
-use messages::file_number::FileNumber;
-use messages::message::Message;
 use messages::message::Message::{
     Conflict, Deny, Freed, Grant, Hello, Released, Report, Request, Revoke, Taken,
 };
-use messages::token_run::TokenRuns;
-use messages::version::Version;
-use model::host::Host;
+use messages::{EpochNumber, FileNumber, Message, TokenRuns, Version};
+use model::Host;
 use std::alloc::AllocError;
 use texts::text::Text;
 

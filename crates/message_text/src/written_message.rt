@@ -1,14 +1,11 @@
 //! Messages as they are read from their texts.
 ghost use Rattle.std.specs.Prelude.{◌≡◌, IfOk};
 ghost use Rattle.messages.specs.declared.message.Message.TheVariants as message;
-ghost use Rattle.message_text.specs.code.Forms.{message_in, IsForm};
-ghost use Rattle.message_text.specs.code.Reports.{IsRunsText, runs_in};
+ghost use Rattle.message_text.specs.code.Reports.{message_in, IsForm, IsRunsText, runs_in};
 
 use crate::reports::read_runs;
-use messages::epoch_number::EpochNumber;
-use messages::file_number::FileNumber;
-use messages::message::Message;
-use model::host::Host;
+use messages::{EpochNumber, FileNumber, Message};
+use model::Host;
 use std::alloc::{AllocError, Global};
 use std::marker::Model;
 
@@ -55,7 +52,7 @@ pub struct WrittenMessage<'a> {
 
 impl<'a> Model for WrittenMessage<'a> {
     ghost use Rattle.messages.specs.declared.message.Message.{Message};
-    ghost use Rattle.message_text.specs.code.Forms.{message_in, IsForm};
+    ghost use Rattle.message_text.specs.code.Reports.{message_in, IsForm};
 
     ghost Value = { Message };
 

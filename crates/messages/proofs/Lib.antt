@@ -2,6 +2,4 @@ pub mod SameRuns
 pub mod RunEquality
 pub mod SameMessages
 pub mod Reports
-pub mod Choices
-pub mod Numbered
 pub mod Rules

@@ -8,7 +8,7 @@ use Rattle.model.specs.declared.level.Level.{Level}
 use Rattle.messages.specs.declared.token_run.TokenRun.{TokenRun}
 use Rattle.messages.specs.rule.TokenRuns.{same_level, may_follow, go_on_after, are_longest, run_of}
 use Rattle.messages.proofs.SameRuns.{level_exact, level_refl}
-use Rattle.messages.specs.rule.Reports.{joined, runs_from, runs_of, reported}
+use Rattle.messages.specs.rule.Messages.{joined, runs_from, runs_of, reported}
 
 -- a token has no byte past the greatest offset
 abbrev pub Ends : (ℕ → Option Level) → Type 0

@@ -27,7 +27,7 @@ use Rattle.messages.specs.contracts.event.EventPartialEq.TheImpl as derived_of_e
 use Rattle.messages.specs.contracts.event.NodeInputPartialEq.TheImpl as derived_of_node_inputs
 use Rattle.messages.specs.contracts.event.ServerInputPartialEq.TheImpl as derived_of_server_inputs
 use Rattle.messages.specs.contracts.event.MemberEventPartialEq.TheImpl as derived_of_member_events
-use Rattle.messages.specs.rule.Wants.{Wants}
+use Rattle.messages.specs.rule.TokenRuns.{Wants, same_range}
 use Rattle.messages.specs.declared.event.Event.{Event}
 use Rattle.messages.specs.declared.event.Event.TheVariants.{AtNode, AtServer, Deliver, Member}
 use Rattle.messages.specs.declared.event.NodeInput.{NodeInput}
@@ -42,7 +42,6 @@ use Rattle.messages.specs.declared.message.Message.{Message}
 use Rattle.messages.specs.declared.message.Message.TheVariants.{Request, Grant, Revoke, Taken, Released, Conflict, Deny, Freed, Hello, Report}
 use Rattle.messages.proofs.RunEquality.{runs_eq}
 use Rattle.messages.proofs.SameRuns.{range_exact, range_refl, runs_decide}
-use Rattle.messages.specs.rule.TokenRuns.{same_range}
 use Rattle.messages.specs.rule.Messages.{same_call, same_wants, same_blocking, same_host, same_lock, same_message, SameMessageIsEquality}
 
 -- a test that passes only equal values, and each value with itself, decides equality

@@ -1,13 +1,6 @@
-pub mod Versions
 pub mod Shapes
-pub mod Epochs
 pub mod TokenRuns
-pub mod Wants
 pub mod Messages
-pub mod Reports
-pub mod Refusals
 pub mod Entries
 pub mod Distances
-pub mod Numbered
 pub mod Members
-pub mod Parts

@@ -1,6 +1,6 @@
 //! The numbers of commands, counted through all epochs of a token server.
 ghost use Rattle.std.specs.Prelude.{◌≡◌, ◌≤◌, ◌+◌};
-ghost use Rattle.messages.specs.rule.Epochs.{IsEpoch, IsCommand, before_epoch, epoch_of};
+ghost use Rattle.messages.specs.rule.Shapes.{IsEpoch, IsCommand, before_epoch, epoch_of};
 
 use std::marker::Model;
 
@@ -22,7 +22,7 @@ pub struct CommandNumber {
 
 impl Model for CommandNumber {
     ghost use Rattle.std.specs.Prelude.{ℕ};
-    ghost use Rattle.messages.specs.rule.Epochs.{IsCommand};
+    ghost use Rattle.messages.specs.rule.Shapes.{IsCommand};
 
     ghost Value = { ℕ };
 

@@ -2,8 +2,7 @@
 ghost use Rattle.std.specs.Prelude.{◌≡◌, ◌≤◌, true, Some, None, IfSome, IfOk, IfErr, OnErr, length, ◌-◌, slice_index_or};
 ghost use Rattle.messages.specs.rule.Messages.{is_within};
 ghost use Rattle.model.specs.rule.Limits.{IsNumber};
-ghost use Rattle.messages.specs.rule.Members.{most_incarnations, first_members, live_incarnation, was_declared, with_restarted, declared_failed, restarted};
-ghost use Rattle.messages.specs.rule.Parts.{members_state};
+ghost use Rattle.messages.specs.rule.Members.{most_incarnations, first_members, live_incarnation, was_declared, with_restarted, declared_failed, restarted, members_state};
 
 use crate::refusal::Refused;
 use std::alloc::{AllocError, Global};
@@ -20,7 +19,7 @@ struct Member {
 }
 
 impl Model for Member {
-    ghost use Rattle.messages.specs.rule.Parts.{MemberParts, IsMember};
+    ghost use Rattle.messages.specs.rule.Members.{MemberParts, IsMember};
 
     ghost Value = { MemberParts };
 
@@ -41,7 +40,7 @@ pub struct Crowd {
 
 impl Model for Crowd {
     ghost use Rattle.std.specs.Prelude.{List};
-    ghost use Rattle.messages.specs.rule.Parts.{MemberParts};
+    ghost use Rattle.messages.specs.rule.Members.{MemberParts};
 
     ghost Value = { List MemberParts };
 

@@ -7,8 +7,7 @@ use crate::kept_reply::KeptReply;
 use crate::outcome::Outcome;
 use crate::sends::Sends;
 use crate::shared_message::SharedMessage;
-use model::call::CallId;
-use model::reply::Reply;
+use model::{CallId, Reply};
 use std::marker::Model;
 
 /// An entry of the journal: an event and its outcome. A call has `call`, its name, which is of the

@@ -1,6 +1,6 @@
 //! The counts after which the commands of an epoch begin.
 ghost use Rattle.std.specs.Prelude.{◌≡◌, ◌≤◌};
-ghost use Rattle.messages.specs.rule.Epochs.{most_epochs, before_epoch, epoch_of, IsRebuilt};
+ghost use Rattle.messages.specs.rule.Shapes.{most_epochs, before_epoch, epoch_of, IsRebuilt};
 
 use crate::command_number::NUMBERS;
 use std::marker::Model;
@@ -13,7 +13,7 @@ pub struct EpochNumber {
 
 impl Model for EpochNumber {
     ghost use Rattle.std.specs.Prelude.{ℕ};
-    ghost use Rattle.messages.specs.rule.Epochs.{IsRebuilt};
+    ghost use Rattle.messages.specs.rule.Shapes.{IsRebuilt};
 
     ghost Value = { ℕ };
 

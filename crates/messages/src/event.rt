@@ -2,7 +2,7 @@
 ghost use Rattle.std.specs.Prelude.{◌≡◌, ◌↔◌, IsTrue, IfOk};
 
 use crate::shared_message::SharedMessage;
-use model::op::Op;
+use model::Op;
 use std::alloc::AllocError;
 
 /// An event of a cluster. A message that is lost has no event that delivers it, a repeated one has

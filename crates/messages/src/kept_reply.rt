@@ -4,8 +4,7 @@
 ghost use Rattle.std.specs.Prelude.{◌≡◌, None, IfOk};
 ghost use Rattle.messages.specs.code.KeptParts.{reply_of};
 
-use model::call::CallId;
-use model::reply::Reply;
+use model::{CallId, Reply};
 use std::alloc::{AllocError, Global};
 use std::marker::Model;
 

@@ -1,8 +1,7 @@
 //! The members of a cluster: its nodes and its token servers.
 ghost use Rattle.std.specs.Prelude.{◌≡◌, ◌-◌, ◌≤◌, IfSome, IfOk, IfErr, OnErr, Ok, Err};
 ghost use Rattle.model.specs.rule.Limits.{IsNumber};
-ghost use Rattle.messages.specs.rule.Members.{most_incarnations, first_members, live_incarnation, was_declared, with_restarted, declared_failed, restarted};
-ghost use Rattle.messages.specs.rule.Parts.{members_state};
+ghost use Rattle.messages.specs.rule.Members.{most_incarnations, first_members, live_incarnation, was_declared, with_restarted, declared_failed, restarted, members_state};
 
 use crate::crowd::Crowd;
 use crate::refusal::Refused;
@@ -20,7 +19,7 @@ pub struct Members {
 }
 
 impl Model for Members {
-    ghost use Rattle.messages.specs.rule.Parts.{MembersParts};
+    ghost use Rattle.messages.specs.rule.Members.{MembersParts};
 
     ghost Value = { MembersParts };
 

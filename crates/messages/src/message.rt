@@ -11,10 +11,7 @@ use crate::file_number::FileNumber;
 use crate::token_run::TokenRuns;
 use crate::wanted::Wanted;
 use intervals::span::Span;
-use model::call::CallId;
-use model::host::Host;
-use model::lock_info::LockInfo;
-use model::mode::Mode;
+use model::{CallId, Host, LockInfo, Mode};
 use std::alloc::{AllocError, Global};
 
 /// Whether the request of a blocked call waits until locks go (POSIX.1-2017 `fcntl()`, F_SETLKW),

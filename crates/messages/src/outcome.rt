@@ -3,8 +3,7 @@ ghost use Rattle.std.specs.Prelude.{◌≡◌};
 ghost use Rattle.messages.specs.rule.Messages.{sending};
 
 use crate::sends::Sends;
-use model::call::CallId;
-use model::reply::Reply;
+use model::{CallId, Reply};
 
 /// The outcome of a step of an actor: the name of the call, if the event is one; at most one reply
 /// to a call; and messages, in the order in which the rules name them.

@@ -2,7 +2,7 @@
 ghost use Rattle.std.specs.Prelude.{◌≡◌};
 ghost use Rattle.messages.specs.declared.refusal.StepError.TheVariants as step;
 ghost use Rattle.messages.specs.declared.refusal.Refused.TheVariants.{NoMemory};
-ghost use Rattle.messages.specs.rule.Refusals.{number_of, refused_by};
+ghost use Rattle.messages.specs.rule.Entries.{number_of, refused_by};
 
 use std::alloc::{AllocError, AllocFailed};
 use thiserror::Error;

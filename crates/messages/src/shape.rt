@@ -1,12 +1,10 @@
 //! The shape of a cluster: its version, its size and its policy.
 ghost use Rattle.std.specs.Prelude.{◌≡◌, ◌↔◌, IfOk, IsOk};
 ghost use Rattle.model.specs.rule.Limits.{IsNumber, most_nodes};
-ghost use Rattle.messages.specs.rule.Versions.{most_regions};
-ghost use Rattle.messages.specs.rule.Shapes.{most_files, IsServed};
+ghost use Rattle.messages.specs.rule.Shapes.{most_regions, most_files, IsServed};
 
 use crate::version::Version;
-use model::limits::MOST_NODES;
-use model::policy::Policy;
+use model::{MOST_NODES, Policy};
 use std::marker::Model;
 use thiserror::Error;
 

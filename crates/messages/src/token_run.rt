@@ -5,7 +5,7 @@ ghost use Rattle.std.specs.Prelude.{◌≡◌, ◌↔◌, true, IfOk, IfSome, Is
 ghost use Rattle.messages.specs.rule.TokenRuns.{are_longest, may_follow, run_of};
 
 use intervals::span::Span;
-use model::level::Level;
+use model::Level;
 use std::alloc::{AllocError, Global};
 use std::hash::{Hash, Hasher};
 use std::marker::Model;

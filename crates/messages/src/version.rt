@@ -1,6 +1,6 @@
 //! The versions of clusters, and how they differ.
 ghost use Rattle.std.specs.Prelude.{◌≡◌};
-ghost use Rattle.messages.specs.rule.Versions.{most_regions, may_rebuild};
+ghost use Rattle.messages.specs.rule.Shapes.{most_regions, may_rebuild};
 
 /// The version of a cluster: how many regions an owner may have in a file, whether its token servers
 /// may fail and be rebuilt, and how its journals are written.

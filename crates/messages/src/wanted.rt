@@ -14,7 +14,7 @@ pub struct Wanted {
 
 impl Model for Wanted {
     ghost use Rattle.std.specs.Prelude.{◌≤◌};
-    ghost use Rattle.messages.specs.rule.Wants.{Wants};
+    ghost use Rattle.messages.specs.rule.TokenRuns.{Wants};
 
     ghost Value = { Wants };
 

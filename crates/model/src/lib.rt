@@ -19,3 +19,18 @@ pub mod owner;
 pub mod policy;
 pub mod process;
 pub mod reply;
+
+pub use access::Access;
+pub use call::CallId;
+pub use host::Host;
+pub use level::Level;
+pub use limits::{MOST_DESCRIPTIONS, MOST_DESCRIPTORS, MOST_NODES, MOST_PROCESSES};
+pub use lock_info::LockInfo;
+pub use lock_target::LockTarget;
+pub use mode::Mode;
+pub use op::{LockCall, LockCommand, Op, ProcessCall};
+pub use opened::Opened;
+pub use owner::{Kind, Owner};
+pub use policy::Policy;
+pub use process::Process;
+pub use reply::Reply;

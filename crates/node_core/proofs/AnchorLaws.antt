@@ -29,11 +29,10 @@ use Rattle.model.proofs.Closings.{close_follows, exit_follows}
 use Rattle.token_set.specs.rule.Tokens.{covers}
 use Rattle.messages.specs.declared.message.Message.{Message}
 use Rattle.messages.specs.declared.message.Message.TheVariants.{Grant, Revoke, Deny, Freed, Hello, Report}
-use Rattle.messages.specs.rule.Reports.{runs_of}
+use Rattle.messages.specs.rule.Messages.{runs_of, addressee, host_of, file_of, is_within, greatest_number}
 use Rattle.messages.specs.declared.refusal.StepError.{StepError}
 use Rattle.messages.specs.declared.refusal.StepError.TheVariants.{Stranger, Busy, Spent}
 use Rattle.messages.specs.declared.outcome.Outcome.{Outcome}
-use Rattle.messages.specs.rule.Messages.{addressee, host_of, file_of, is_within, greatest_number}
 use Rattle.messages.specs.declared.event.NodeInput.TheVariants as input
 use Rattle.node_core.specs.declared.event.NodeEvent.{NodeEvent}
 use Rattle.node_core.specs.declared.event.NodeEvent.TheVariants as event

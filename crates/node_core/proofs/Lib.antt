@@ -1,9 +1,5 @@
 pub mod FileLaws
-pub mod MadeRows
-pub mod CallLaws
 pub mod NodeLaws
-pub mod EpochLaws
-pub mod ReaderLaws
 pub mod RuleLaws
 pub mod PlanLaws
 pub mod ShutLaws

@@ -1,12 +1,15 @@
 -- The parts of a node and the state that they stand for.
-use Rattle.std.specs.Prelude.{◌≡◌, ℕ, ◌≤◌, ◌&&◌, ◌==◌, Bool, true, false, nat_lt, if◌then◌else◌, List, [], ◌∷◌, Option, Some, None, Result, Ok, Err, All, IfOk, IfSome, MatchOption, find, length, refl}
-use Rattle.std.proofs.Common.{arith, ap, sym, subst, ◌∙◌}
+use Rattle.std.specs.Prelude.{◌≡◌, ℕ, Bool, false, not, cond, List, [], ◌∷◌, ◌++◌, Some, None, All, filter, find, slice_get, take, ◌+◌, refl, ◌≤◌, ◌&&◌, ◌==◌, true, nat_lt, if◌then◌else◌, Option, Result, Ok, Err, IfOk, IfSome, MatchOption, length, zero, suc, ◌<◌, map}
+use Rattle.std.proofs.Common.{ap, sym, ◌∙◌, arith, subst}
+use Rattle.std.proofs.lemmas.List.{take_more}
+use Rattle.std.proofs.lemmas.List.Elements.{All-head, All-tail, All-nil}
+use Rattle.std.proofs.lemmas.Option.{slice_get_within, get_or_from_slice_get, slice_get_past}
+use Rattle.node_core.specs.declared.open_call.OpenCall.{OpenCall}
 use Rattle.std.proofs.lemmas.Bool.{and_from, eq-eqb}
 use Rattle.std.proofs.lemmas.Bool.Decides.{nat_tests}
-use Rattle.std.proofs.lemmas.List.Elements.{All-head, All-tail}
 use Rattle.intervals.specs.declared.span.SpanError.{SpanError}
 use Rattle.intervals.specs.declared.span.SpanError.TheVariants.{Invalid}
-use Rattle.intervals.specs.rule.Bytes.{Range, greatest, whole}
+use Rattle.intervals.specs.rule.Bytes.{Range, greatest, whole, IsRun}
 use Rattle.model.specs.declared.mode.Mode.{Mode}
 use Rattle.model.specs.declared.access.Access.{Access}
 use Rattle.model.specs.declared.owner.Kind.{Kind}
@@ -25,21 +28,18 @@ use Rattle.model.specs.rule.Descriptors.{Processes, after, no_processes, with_de
 use Rattle.model.specs.rule.Table.{LockTarget, around, beside, with_processes, target_at}
 use Rattle.lock_table.specs.code.Rows.{IsSameTable}
 use Rattle.lock_table.specs.rule.Tables.{TableParts, held}
-use Rattle.messages.specs.rule.Versions.{most_regions}
-use Rattle.token_set.specs.rule.Tokens.{Token, desired, holds_nothing}
-use Rattle.token_set.specs.rule.Releases.{IsRevocable, IsGivenUp, gave_up}
+use Rattle.messages.specs.rule.Shapes.{most_regions, ShapeFields}
+use Rattle.token_set.specs.rule.Tokens.{Token, desired, holds_nothing, no_token, IsRevocable, IsGivenUp, gave_up}
 use Rattle.token_set.specs.declared.gave_up.GaveUp.{GaveUp}
 use Rattle.token_set.proofs.ReleaseLaws.{gave_up_is_one}
-use Rattle.messages.specs.rule.Shapes.{ShapeFields}
 use Rattle.descriptors.specs.declared.process_entry.ProcessEntry.{ProcessEntry}
 use Rattle.descriptors.specs.declared.error.FdError.{FdError}
 use Rattle.node_core.specs.declared.file_row.FileRow.{FileRow}
-use Rattle.node_core.specs.declared.open_call.OpenCall.{OpenCall}
-use Rattle.node_core.specs.rule.State.{NodeState, first_file, first_node, host, process}
+use Rattle.node_core.specs.rule.State.{NodeState, first_file, first_node, host, process, FileState}
 use Rattle.descriptors.specs.code.Rows.{resolved, fd_reply}
 use Rattle.descriptors.specs.rule.Rows.{processes}
-use Rattle.fcntl_table.proofs.TargetLaws.{target_in, target-err, target-ok, resolved_ok}
-use Rattle.node_core.specs.rule.Files.{file_state}
+use Rattle.fcntl_table.proofs.TableLaws.{target_in, target-err, target-ok, resolved_ok}
+use Rattle.node_core.specs.rule.Files.{file_state, state_or}
 use Rattle.node_core.specs.rule.Parts.{NodeParts, node_state, IsOwnCall, IsNode}
 use Rattle.descriptors.specs.declared.edit.ProcessEdit.{ProcessEdit}
 use Rattle.descriptors.specs.code.Edits.{edited, Fits as ProcessFits}
@@ -47,10 +47,34 @@ use Rattle.model.specs.declared.op.Op.TheVariants.{Process}
 use Rattle.model.specs.declared.op.ProcessCall.{ProcessCall}
 use Rattle.model.specs.declared.op.ProcessCall.TheVariants.{Spawn, Fork, Open, Dup}
 use Rattle.model.specs.rule.Step.{IsPossible}
-use Rattle.messages.specs.rule.Messages.{is_within}
+use Rattle.messages.specs.rule.Messages.{is_within, runs_of}
 use Rattle.node_core.specs.rule.Calls.{is_in_shape}
 use Rattle.node_core.specs.code.Plans.{table_after, TableFits}
 use Rattle.node_core.specs.declared.node_edit.NodeTableEdit.TheVariants.{OfProcess as OfProcessEdit}
+use Rattle.model.specs.declared.level.Level.{Level}
+use Rattle.model.specs.rule.Anchors.{IsAnchored}
+use Rattle.messages.specs.rule.TokenRuns.{run_of, are_longest}
+use Rattle.messages.proofs.Reports.{lists_runs_of, runs_of-longest}
+use Rattle.token_set.specs.code.Sets.{ListsRuns}
+
+-- a search of the calls for one that none is finds none
+pub find-absent : (P : OpenCall → Type 0) (test : OpenCall → Bool) → ((c : OpenCall) → P c → test c ≡ false) → (cs : List OpenCall) → All P cs → find test cs ≡ None
+find-absent P test fails [] all = refl
+find-absent P test fails (c ∷ cs) all = (λ i. cond (fails c (All-head P c cs all) i) (Some c) (find test cs)) ∙ find-absent P test fails cs (All-tail P c cs all)
+
+-- a filter that drops a call that none is leaves all calls
+pub filter-absent : (P : OpenCall → Type 0) (test : OpenCall → Bool) → ((c : OpenCall) → P c → test c ≡ false) → (cs : List OpenCall) → All P cs → filter (λ c. not (test c)) cs ≡ cs
+filter-absent P test fails [] all = refl
+filter-absent P test fails (c ∷ cs) all =
+    (λ i. cond (not (fails c (All-head P c cs all) i)) (c ∷ filter (λ d. not (test d)) cs) (filter (λ d. not (test d)) cs))
+    ∙ ap (λ ds. c ∷ ds) (filter-absent P test fails cs (All-tail P c cs all))
+
+-- two lists that agree up to a place agree up to the next one if they agree there
+pub same-next : {X : Type 0} (xs ys : List X) (i : ℕ) (x : X) → slice_get xs i ≡ Some x → slice_get ys i ≡ Some x → take i xs ≡ take i ys → take (i + 1) xs ≡ take (i + 1) ys
+same-next xs ys i x here there same =
+    take_more xs i x (slice_get_within xs i x here)
+    ∙ (λ j. same j ++ (get_or_from_slice_get xs i x x here ∙ sym (get_or_from_slice_get ys i x x there)) j ∷ [])
+    ∙ sym (take_more ys i x (slice_get_within ys i x there))
 
 -- a node's own numbers pass the test for them
 own_host : (node incarnation : ℕ) → ((node == node) && (incarnation == incarnation)) ≡ true
@@ -283,3 +307,48 @@ state-same p q e = record {
   pending = ap (λ (s : NodeState). s.pending) e;
   files = ap (λ (s : NodeState). s.files) e;
 }
+
+-- the empty token has no runs
+pub no_runs : ListsRuns no_token []
+no_runs = record {
+  each = All-nil (λ (r : Range × Level). IsRun no_token r.0 r.1);
+  complete = λ s level run. let e = run.all s.lo (omega arith) run.ordered in absurd cc;
+  rises = λ i j d lt within. absurd (omega arith);
+}
+
+-- nothing is known of a file that is not of the shape
+pub file_state-past : (files : List FileRow) (file : ℕ) → is_within (length files) file ≡ false → file_state files file ≡ first_file
+unfolding file_state
+file_state-past files zero outside = refl
+file_state-past files (suc file) outside =
+    let past : length files ≤ file = grind (arith, nat_tests, outside) in
+    ap state_or (slice_get_past files file past)
+
+-- the node's token for a file that is not of the shape has no runs
+pub past_runs : (p : NodeParts) (file : ℕ) (runs : List (Range × Level)) → length p.files ≡ p.shape.files → is_within p.shape.files file ≡ false → runs ≡ [] → ListsRuns ((node_state p).files file).token runs
+unfolding node_state
+past_runs p file runs there outside none =
+    let is = file_state-past p.files file (ap (λ (n : ℕ). is_within n file) there ∙ outside) in
+    subst (λ (s : FileState). ListsRuns s.token runs) (sym is) (subst (ListsRuns no_token) (sym none) no_runs)
+
+-- a file that passes the test is of the shape
+pub file_in_shape : (p : NodeParts) (file : ℕ) → is_within p.shape.files file ≡ true → IsNumber (node_state p).shape.files file
+unfolding node_state
+file_in_shape p file within = (grind (arith, nat_tests, within), grind (arith, nat_tests, within))
+
+-- the locks of a node are of its own owners
+pub node-owners : (p : NodeParts) (file : ℕ) → IsNode p → IsOfNode ((node_state p).table.locks file) (node_state p).node (node_state p).incarnation
+unfolding node_state
+node-owners p file n = n.anchored.own.locks file
+
+-- no lock of a node outlives its descriptors
+pub node-anchored : (p : NodeParts) → IsNode p → IsAnchored (node_state p).table (node_state p).node (node_state p).incarnation
+unfolding node_state
+node-anchored p n = n.anchored.own.anchored
+
+-- the list of a token's longest runs is the list that a report has
+pub reported_runs : (t : Token) (runs listed : List (Range × Level)) → ListsRuns t runs → ((b : ℕ) → greatest < b → t b ≡ None) → listed ≡ runs → map run_of listed ≡ runs_of t
+reported_runs t runs listed l ends same = ap (map run_of) same ∙ lists_runs_of t ends runs l.each l.complete l.rises
+
+pub reported_longest : (t : Token) (runs listed : List (Range × Level)) → ListsRuns t runs → ((b : ℕ) → greatest < b → t b ≡ None) → listed ≡ runs → are_longest (map run_of listed) ≡ true
+reported_longest t runs listed l ends same = ap are_longest (reported_runs t runs listed l ends same) ∙ runs_of-longest t ends

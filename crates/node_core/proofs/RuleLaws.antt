@@ -26,11 +26,10 @@ use Rattle.model.specs.rule.Locks.{FileLocks, IsRegion, IsFree, IsOfNode, IsClea
 use Rattle.model.specs.rule.Table.{Table, LockTarget, is_running, descriptor, allows, target_at, target, need_of, call_target, regions_with, locked, lock_within}
 use Rattle.model.proofs.BlockerLaws.{is_lowest_blocker}
 use Rattle.model.proofs.WayLaws.{clear_has_none}
-use Rattle.token_set.specs.rule.Tokens.{Token, level_conflicts, conflicts, covers}
+use Rattle.token_set.specs.rule.Tokens.{Token, level_conflicts, conflicts, covers, lowered_level, lowered, gave_up, after_giving_up, IsGivenUp}
 use Rattle.token_set.specs.declared.gave_up.GaveUp.{GaveUp}
 use Rattle.token_set.specs.declared.gave_up.GaveUp.TheVariants.{Released, Conflict}
-use Rattle.token_set.specs.rule.Releases.{lowered_level, lowered, gave_up, after_giving_up, IsGivenUp}
-use Rattle.token_set.proofs.SearchLaws.{none_passes-from}
+use Rattle.token_set.proofs.TokenLaws.{none_passes-from}
 use Rattle.token_set.proofs.ReleaseLaws.{gave_up_is_given_up}
 use Rattle.messages.specs.declared.outcome.Outcome.{Outcome}
 use Rattle.messages.specs.declared.refusal.StepError.{StepError}
@@ -43,7 +42,7 @@ use Rattle.node_core.specs.rule.Calls.{is_pid, is_in_shape, is_exit, is_busy, lo
 use Rattle.node_core.specs.rule.Commands.{in_epoch, answer_to, is_conflict, revoked}
 use Rattle.node_core.specs.rule.Interrupts.{interruption_of, interrupted}
 use Rattle.node_core.specs.rule.Parts.{IsSpan}
-use Rattle.node_core.proofs.EpochLaws.{in_epoch-file}
+use Rattle.node_core.proofs.PlanLaws.{in_epoch-file}
 use Rattle.node_core.specs.rule.Laws.{MayCall, CoveredLockIsDone, IsUntouched, InterruptChangesNothing, GivesUp, ClearRevokeGivesUp}
 
 -- a branch whose test holds is taken

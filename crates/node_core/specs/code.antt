@@ -1,3 +1,1 @@
-pub mod FileRows
-pub mod Hints
 pub mod Plans

@@ -2,11 +2,8 @@
 ghost use Rattle.std.specs.Prelude.{◌≡◌};
 ghost use Rattle.node_core.specs.rule.Answers.{message_of};
 
-use messages::command_number::CommandNumber;
-use messages::file_number::FileNumber;
-use messages::message::Message;
-use model::call::CallId;
-use model::host::Host;
+use messages::{CommandNumber, FileNumber, Message};
+use model::{CallId, Host};
 use token_set::gave_up::GaveUp;
 
 /// The part of an answer that depends on the kind of its command.

@@ -2,7 +2,7 @@
 ghost use Rattle.std.specs.Prelude.{◌≡◌};
 
 use crate::node_edit::NodeEdit;
-use messages::outcome::Outcome;
+use messages::Outcome;
 
 /// A planned step of a node: what it changes, in a box, because many calls hand it up by value, and its outcome.
 #[derive(Drop)]

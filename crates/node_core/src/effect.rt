@@ -6,11 +6,8 @@ ghost use Rattle.node_core.specs.code.Plans.{TellsOf};
 
 use crate::change::NodeChange;
 use crate::node_edit::NodeEdit;
-use messages::message::Message;
-use messages::outcome::Outcome;
-use messages::sends::Sends;
-use model::call::CallId;
-use model::reply::Reply;
+use messages::{Message, Outcome, Sends};
+use model::{CallId, Reply};
 use std::alloc::{AllocError, Global};
 
 /// The effect of a step: what it changes, in a box, because many calls hand it up by value; at most one reply; and

@@ -1,6 +1,5 @@
 //! The events of a node: what can happen to it.
-use messages::event::NodeInput;
-use messages::message::Message;
+use messages::{Message, NodeInput};
 
 /// An event of a node.
 #[derive(PartialEq, Eq, Drop)]

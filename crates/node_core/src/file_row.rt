@@ -3,21 +3,20 @@
 //! Each function here that can fail errs with `AllocError`, where a request for memory was refused.
 ghost use Rattle.std.specs.Prelude.{◌≡◌, ◌↔◌, false, IfOk, IsTrue};
 ghost use Rattle.token_set.specs.rule.Tokens.{token_of};
-ghost use Rattle.messages.specs.rule.Reports.{runs_of};
+ghost use Rattle.messages.specs.rule.Messages.{runs_of};
 ghost use Rattle.node_core.specs.rule.State.{first_file};
 ghost use Rattle.node_core.specs.rule.Answers.{answer_of};
 ghost use Rattle.node_core.specs.rule.Commands.{is_conflict, renewed};
 ghost use Rattle.node_core.specs.rule.Files.{state_of};
 ghost use Rattle.node_core.specs.rule.Parts.{granted_file, revoked_file};
-ghost use Rattle.node_core.specs.code.FileRows.{first_row};
-ghost use Rattle.node_core.specs.code.Plans.{file_after};
+ghost use Rattle.node_core.specs.code.Plans.{first_row, file_after};
 
 use crate::answer::Answer;
 use crate::numbers::begin_of;
 use crate::token_command::TokenCommand;
 use intervals::span::Span;
-use messages::token_run::TokenRuns;
-use model::host::Host;
+use messages::TokenRuns;
+use model::Host;
 use std::alloc::{AllocError, Global};
 use token_set::edit::TokenEdit;
 use token_set::gave_up::GaveUp;

@@ -7,8 +7,7 @@ ghost use Rattle.std.specs.Vec.{vec_capacity};
 ghost use Rattle.model.specs.rule.Limits.{IsNumber};
 ghost use Rattle.node_core.specs.rule.State.{first_file};
 ghost use Rattle.node_core.specs.rule.Files.{state_of, file_state};
-ghost use Rattle.node_core.specs.code.FileRows.{rows_of};
-ghost use Rattle.node_core.specs.code.Plans.{edit_in, files_after, told, files_told, CommandFits};
+ghost use Rattle.node_core.specs.code.Plans.{rows_of, edit_in, files_after, told, files_told, CommandFits};
 
 use crate::file_row::{FileEdit, FileRow};
 use std::alloc::{AllocError, Global};
@@ -28,7 +27,7 @@ impl Model for FileRows {
     ghost use Rattle.std.specs.Prelude.{◌≡◌, ◌≤◌, List};
     ghost use Rattle.std.specs.Vec.{vec_capacity};
     ghost use Rattle.node_core.specs.declared.file_row.FileRow.{FileRow as Row};
-    ghost use Rattle.node_core.specs.code.FileRows.{first_row, rows_of};
+    ghost use Rattle.node_core.specs.code.Plans.{first_row, rows_of};
 
     ghost Value = { List Row };
 

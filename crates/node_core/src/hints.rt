@@ -1,6 +1,6 @@
 //! Hints that say quickly that no call with some number, or of some process, is open.
 ghost use Rattle.std.specs.Prelude.{◌≡◌, ◌==◌, false, All};
-ghost use Rattle.node_core.specs.code.Hints.{IsHinted};
+ghost use Rattle.node_core.specs.code.Plans.{IsHinted};
 ghost use Rattle.node_core.specs.declared.open_call.OpenCall.{OpenCall as Call};
 
 use crate::open_call::OpenCall;

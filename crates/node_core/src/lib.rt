@@ -17,3 +17,9 @@ mod numbers;
 pub mod open_call;
 pub mod open_calls;
 pub mod token_command;
+
+pub use change::NodeChange;
+pub use event::NodeEvent;
+pub use node::Node;
+pub use node_edit::NodeEdit;
+pub use open_call::OpenCall;

@@ -16,12 +16,8 @@ use crate::numbers::calls_after;
 use crate::open_calls::OpenCalls;
 use descriptors::processes::Processes;
 use lock_table::lock_table::LockTable;
-use messages::event::NodeInput;
-use messages::message::Message;
-use messages::outcome::Outcome;
-use messages::refusal::StepError;
-use messages::shape::Shape;
-use model::host::Host;
+use messages::{Message, NodeInput, Outcome, Shape, StepError};
+use model::Host;
 use std::alloc::{AllocError, Global};
 use std::marker::Model;
 

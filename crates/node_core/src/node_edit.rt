@@ -12,8 +12,8 @@ use descriptors::edit::ProcessEdit;
 use descriptors::processes::Processes;
 use fcntl_table::shut::{close_at, exit_at};
 use lock_table::lock_table::{LockEdit, LockTable};
-use messages::items::Items;
-use model::host::Host;
+use messages::Items;
+use model::Host;
 use std::alloc::{AllocError, Global};
 
 /// The changes of a step that come before a call is tried: whether the call takes the next number,

@@ -1,14 +1,13 @@
 //! Tests of the numbers of processes, files, nodes and commands.
 ghost use Rattle.std.specs.Prelude.{◌≡◌};
-ghost use Rattle.messages.specs.rule.Epochs.{begin_of};
+ghost use Rattle.messages.specs.rule.Shapes.{begin_of};
 ghost use Rattle.messages.specs.rule.Messages.{is_within};
 ghost use Rattle.node_core.specs.rule.Calls.{is_pid};
 ghost use Rattle.node_core.specs.rule.Commands.{is_node};
 ghost use Rattle.node_core.specs.code.Plans.{calls_after, NumberFits};
 
-use messages::actor::Actor;
-use messages::command_number::GREATEST_NUMBER;
-use model::limits::MOST_PROCESSES;
+use messages::{Actor, GREATEST_NUMBER};
+use model::MOST_PROCESSES;
 
 /// Whether the number is one that a process can have.
 pub fn is_pid(pid: u16) -> bool

@@ -5,13 +5,8 @@ ghost use Rattle.node_core.specs.rule.Try.{refusal_of, blocking_of};
 ghost use Rattle.node_core.specs.rule.Interrupts.{interruption_of};
 
 use intervals::span::Span;
-use messages::message::Blocking;
-use model::lock_info::LockInfo;
-use model::lock_target::LockTarget;
-use model::mode::Mode;
-use model::op::LockCommand;
-use model::owner::Owner;
-use model::reply::Reply;
+use messages::Blocking;
+use model::{LockCommand, LockInfo, LockTarget, Mode, Owner, Reply};
 
 /// The reply that names a lock in the way; a wait stays open.
 pub fn refusal_of(command: LockCommand, lock: LockInfo) -> Option<Reply>

@@ -40,7 +40,7 @@ impl Model for OpenCalls {
     ghost view = { λ c. c.calls.items };
 
     ghost use Rattle.std.specs.Prelude.{All};
-    ghost use Rattle.node_core.specs.code.Hints.{IsHinted};
+    ghost use Rattle.node_core.specs.code.Plans.{IsHinted};
 
     ghost invariant = { λ c. All (IsHinted c.hints) c.calls.items };
 }

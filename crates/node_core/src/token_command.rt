@@ -5,11 +5,8 @@ ghost use Rattle.node_core.specs.rule.Answers.{message_of};
 ghost use Rattle.node_core.specs.rule.Commands.{answer_to};
 
 use crate::answer::{Answer, AnswerBody};
-use messages::command_number::CommandNumber;
-use messages::file_number::FileNumber;
-use model::call::CallId;
-use model::host::Host;
-use model::mode::Mode;
+use messages::{CommandNumber, FileNumber};
+use model::{CallId, Host, Mode};
 use token_set::gave_up::GaveUp;
 
 /// What a grant and a revoke both have: the file, the number of the command, the call that needs

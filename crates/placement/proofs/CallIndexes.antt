@@ -15,7 +15,7 @@ use Rattle.model.specs.rule.Owners.{host_of_call, same_host}
 use Rattle.messages.specs.rule.Messages.{same_call}
 use Rattle.messages.proofs.SameMessages.{host_exact, call_exact}
 use Rattle.placement.specs.declared.call_index.CallIndex.{CallIndex}
-use Rattle.placement.specs.code.CallIndexes.{Rows, list_at, row_of, in_row, entry_of, TakesIn}
+use Rattle.placement.specs.code.Indexes.{Rows, list_at, row_of, in_row, entry_of, TakesIn}
 use Rattle.placement.proofs.Index.{option_or-none, not_found}
 
 -- what is read from a row that grows

@@ -13,17 +13,14 @@ use Rattle.messages.specs.declared.event.Event.{Event}
 use Rattle.messages.specs.declared.event.Event.TheVariants.{Deliver}
 use Rattle.messages.specs.declared.entry.Entry.{Entry}
 use Rattle.cluster_core.specs.declared.item.Item.{Item}
-use Rattle.cluster_core.specs.code.Placement.{Slots, find_call, item_of, filled, placed_by, slots_after, slots_from, slots_of, items_in, gone_at}
+use Rattle.cluster_core.specs.code.Calls.{Slots, find_call, item_of, filled, placed_by, slots_after, slots_from, slots_of, items_in, gone_at}
 use Rattle.cluster_core.proofs.history.Slots.{slots_of-push}
 use Rattle.placement.specs.declared.slot.Slot.{Slot}
 use Rattle.placement.specs.declared.slot.Slot.TheVariants.{Empty}
 use Rattle.placement.specs.declared.revoke_id.RevokeId.{RevokeId}
 use Rattle.placement.specs.declared.call_index.CallIndex.{CallIndex}
-use Rattle.placement.specs.code.CallIndexes.{entry_of}
-use Rattle.placement.specs.code.Indexes.{Conflicts, Indexes, KnowsDenial, Locates, AreBefore, same_revoke, told_at, slot_of, call_at}
-use Rattle.placement.specs.code.Standing.{answered_so, answered_by, stands, standing}
-use Rattle.placement.proofs.Locating.{denial_known, located_before, located_none}
-use Rattle.placement.proofs.Index.{indexes_start}
+use Rattle.placement.specs.code.Indexes.{entry_of, Conflicts, Indexes, KnowsDenial, Locates, AreBefore, same_revoke, told_at, slot_of, call_at, answered_so, answered_by, stands, standing}
+use Rattle.placement.proofs.Index.{denial_known, located_before, located_none, indexes_start}
 
 own_slot : (slots : Slots) (n : ℕ) (item : ℕ → Option Item) → n ≡ length slots → slots ++ item (n + 1) ∷ [] ≡ slice_set (slots ++ None ∷ []) (length slots) (item (length slots + 1))
 own_slot slots n item same = ap (λ (k : ℕ). slots ++ item (k + 1) ∷ []) same ∙ sym (set-append_seam slots None [] (item (length slots + 1)))

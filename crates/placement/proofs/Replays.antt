@@ -6,7 +6,7 @@ use Rattle.std.proofs.lemmas.Bool.{false≢true}
 use Rattle.model.specs.rule.Table.{Table, empty_table}
 use Rattle.model.proofs.ReplayLaws.{tables_are_one}
 use Rattle.messages.specs.declared.version.Version.{Version}
-use Rattle.messages.specs.rule.Versions.{most_regions}
+use Rattle.messages.specs.rule.Shapes.{most_regions}
 use Rattle.cluster_core.specs.declared.item.Item.{Item}
 use Rattle.cluster_core.specs.declared.item.Item.TheVariants.{Answered, Gone}
 use Rattle.cluster_core.specs.rule.Histories.{caller, ItemStep, Legal, IsLegal}

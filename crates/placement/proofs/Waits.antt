@@ -15,8 +15,7 @@ use Rattle.model.specs.rule.Table.{Table, LockTarget, call_target}
 use Rattle.model.specs.rule.Step.{BlocksCall, AfterTests, LockStep, Step}
 use Rattle.model.specs.rule.Replay.{NeverAnswers, NamesNoLock}
 use Rattle.model.proofs.ReplayLaws.{passed, replies_are_one, blocked-waits}
-use Rattle.placement.specs.code.Waits.{GoesOn}
-use Rattle.placement.specs.code.Blocking.{BlocksOp}
+use Rattle.placement.specs.code.Indexes.{GoesOn, BlocksOp}
 
 -- a wait alone is interrupted
 is_wait : (t : Table) (command : LockCommand) (mode : Mode) (new : Table) (c : LockTarget) → LockStep t command mode Interrupted new c → command ≡ Wait

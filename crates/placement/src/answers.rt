@@ -5,18 +5,13 @@ ghost use Rattle.model.specs.declared.reply.Reply.TheVariants.{Interrupted};
 ghost use Rattle.model.specs.rule.Step.{BlocksCall, IsPossible, Step};
 ghost use Rattle.model.specs.rule.Replay.{NeverAnswers, NamesNoLock};
 ghost use Rattle.fcntl_table.specs.rule.Tables.{table_of};
-ghost use Rattle.placement.specs.code.Waits.{GoesOn};
-ghost use Rattle.placement.specs.code.Blocking.{BlocksOp};
+ghost use Rattle.placement.specs.code.Indexes.{GoesOn, BlocksOp};
 
 use fcntl_table::table::FcntlTable;
-use model::limits::MOST_PROCESSES;
-use model::lock_info::LockInfo;
-use model::lock_target::LockTarget;
-use model::mode::Mode;
-use model::op::{LockCall, LockCommand, Op, ProcessCall};
-use model::owner::Kind;
-use model::process::Process;
-use model::reply::Reply;
+use model::{
+    Kind, LockCall, LockCommand, LockInfo, LockTarget, MOST_PROCESSES, Mode, Op, Process,
+    ProcessCall, Reply,
+};
 use std::alloc::AllocError;
 
 // Whether both replies are equal.

@@ -4,9 +4,9 @@ ghost use Rattle.std.specs.Option.{option_map_or};
 ghost use Rattle.model.specs.declared.call.CallId.{CallId};
 ghost use Rattle.model.specs.declared.host.Host.{Host};
 ghost use Rattle.model.specs.rule.Owners.{host_of_call, same_host};
-ghost use Rattle.placement.specs.code.CallIndexes.{list_at, row_of, entry_of, TakesIn};
+ghost use Rattle.placement.specs.code.Indexes.{list_at, row_of, entry_of, TakesIn};
 
-use model::call::CallId;
+use model::CallId;
 use std::alloc::{AllocError, Global};
 use std::collections::HashMap;
 

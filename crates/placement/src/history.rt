@@ -2,8 +2,8 @@
 ghost use Rattle.std.specs.Prelude.{◌≡◌, ◌↔◌, IfOk, IsOk, IsTrue};
 ghost use Rattle.cluster_core.specs.rule.Histories.{position_of, Rising};
 
-use cluster_core::item::Item;
-use messages::version::Version;
+use cluster_core::Item;
+use messages::Version;
 use std::marker::Model;
 use thiserror::Error;
 

@@ -8,11 +8,9 @@ ghost use Rattle.fcntl_table.specs.rule.Tables.{table_of};
 
 use crate::answers::take;
 use crate::history::History;
-use cluster_core::item::Item;
+use cluster_core::Item;
 use fcntl_table::table::FcntlTable;
-use model::call::CallId;
-use model::limits::MOST_PROCESSES;
-use model::process::Process;
+use model::{CallId, MOST_PROCESSES, Process};
 use std::alloc::{AllocError, Global};
 
 /// Whether a single machine's table may answer each call of the history with the reply that stands there, item by

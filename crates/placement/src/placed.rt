@@ -7,21 +7,17 @@ ghost use Rattle.std.specs.HashMap.{get};
 ghost use Rattle.cluster_core.specs.rule.World.{journal_limit};
 ghost use Rattle.cluster_core.specs.rule.Safe.{LeadsToSafe};
 ghost use Rattle.cluster_core.specs.rule.Histories.{HasHistory, EachAtItsPlace};
-ghost use Rattle.cluster_core.specs.code.Placement.{find_call, gone_at, item_of, slots_after, slots_of, items_in};
+ghost use Rattle.cluster_core.specs.code.Calls.{find_call, gone_at, item_of, slots_after, slots_of, items_in};
 ghost use Rattle.placement.specs.declared.revoke_id.RevokeId.{RevokeId};
-ghost use Rattle.placement.specs.code.Indexes.{Indexes, Locates, Notes, AreBefore, KnowsDenial, same_revoke, denied, told_at, slot_of};
-ghost use Rattle.placement.specs.code.Standing.{stands, standing};
+ghost use Rattle.placement.specs.code.Indexes.{Indexes, Locates, Notes, AreBefore, KnowsDenial, same_revoke, denied, told_at, slot_of, stands, standing};
 
 use crate::call_index::CallIndex;
 use crate::history::History;
 use crate::revoke_id::RevokeId;
 use crate::slot::{Slot, gone_at};
-use cluster_core::item::Item;
-use cluster_core::journal::Journal;
-use messages::entry::Entry;
-use messages::event::{Event, NodeInput};
-use messages::message::Message;
-use model::call::CallId;
+use cluster_core::{Item, Journal};
+use messages::{Entry, Event, Message, NodeInput};
+use model::CallId;
 use std::alloc::{AllocError, Global};
 use std::collections::HashMap;
 

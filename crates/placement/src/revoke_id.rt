@@ -1,7 +1,6 @@
 //! The name of a revoke.
-use messages::command_number::CommandNumber;
-use messages::file_number::FileNumber;
-use model::host::Host;
+use messages::{CommandNumber, FileNumber};
+use model::Host;
 
 /// The name of a revoke: its file, its number among the commands of that file's token server to the holder (from 1),
 /// and the holder, the node whose token it takes back.

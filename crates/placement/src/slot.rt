@@ -1,14 +1,12 @@
 //! A slot of a history: what stands at an entry of a run.
 ghost use Rattle.std.specs.Prelude.{◌≡◌, ◌<◌};
 ghost use Rattle.cluster_core.specs.rule.World.{journal_limit};
-ghost use Rattle.cluster_core.specs.code.Calls.{called_by};
-ghost use Rattle.cluster_core.specs.code.Placement.{gone_at};
-ghost use Rattle.placement.specs.code.Standing.{answered_so, stands};
+ghost use Rattle.cluster_core.specs.code.Calls.{called_by, gone_at};
+ghost use Rattle.placement.specs.code.Indexes.{answered_so, stands};
 
-use cluster_core::item::Item;
-use messages::entry::Entry;
-use messages::event::{Event, MemberEvent, NodeInput};
-use model::op::Op;
+use cluster_core::Item;
+use messages::{Entry, Event, MemberEvent, NodeInput};
+use model::Op;
 
 /// What stands at an entry: nothing; the failure of a node, which the entry declares; or a call, which one entry makes
 /// and another answers, each named by its index, from 0.

@@ -17,7 +17,7 @@ use Rattle.cluster_core.specs.rule.Actors.{HasNode}
 use Rattle.cluster_core.specs.rule.World.{WorldState, has_file, has_node, is_alive}
 use Rattle.cluster_core.specs.rule.Rounds.{IsQuiet}
 use Rattle.player.specs.rule.Rounds.{IsDue, works}
-use Rattle.player.specs.code.Due.{Adds, AreDue, IsLearn, IsLearnAt, IsLearnOf, IsResend, IsResendAt, IsRetry, IsRetryAt, IsRetryOf, OfUpTo}
+use Rattle.player.specs.code.Rounds.{Adds, AreDue, IsLearn, IsLearnAt, IsLearnOf, IsResend, IsResendAt, IsRetry, IsRetryAt, IsRetryOf, OfUpTo}
 
 pub adds_none : (Is : Event → Type 0) (old : List Event) → ((event : Event) → Is event → ⊥) → Adds Is old old
 adds_none Is old none = record { more = []; grew = sym (append-nil old); each = All-nil Is; all = λ event is. absurd (none event is) }

@@ -37,7 +37,7 @@ use Rattle.cluster_core.proofs.steps.Moves.{delivered_receives, retried_receives
 use Rattle.cluster_core.proofs.steps.NodeSteps.{deliver_done, retry_done}
 use Rattle.cluster_core.proofs.steps.NodeTokens.{all_among}
 use Rattle.cluster_core.proofs.steps.Steps.{next_taken, node_step, server_step}
-use Rattle.player.specs.code.Laws.{RoundsAreAboutFiles}
+use Rattle.player.specs.code.Rounds.{RoundsAreAboutFiles}
 use Rattle.player.specs.rule.Rounds.{Arrive}
 
 -- an event that is among those of the entries happens there

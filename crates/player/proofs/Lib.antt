@@ -1,6 +1,7 @@
 pub mod Arrivals
 pub mod Deliveries
 pub mod DueLists
+pub mod Expectations
 pub mod FileRounds
 pub mod Marks
 pub mod NoneStuck

@@ -5,7 +5,7 @@ use Rattle.std.proofs.lemmas.Bool.{cases_eq, cases_lt, eq-eqb, ne_eqb, lt-ltb, l
 use Rattle.std.proofs.Math.Bool.{or-false}
 use Rattle.std.proofs.lemmas.List.{get_or-set_same, get_or-set_other}
 use Rattle.player.specs.rule.Progress.{with_settled, IsLeastUnsettled}
-use Rattle.player.specs.code.Settled.{SettledParts, settled_in}
+use Rattle.player.specs.code.Rounds.{SettledParts, settled_in}
 
 or_true : (b : Bool) → (b || true) ≡ true
 or_true true = refl

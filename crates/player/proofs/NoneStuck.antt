@@ -10,8 +10,8 @@ use Rattle.cluster_core.specs.rule.Runs.{Leads}
 use Rattle.cluster_core.specs.rule.World.{WorldState, first_world, has_file}
 use Rattle.cluster_core.proofs.rounds.Stretches.{members_stay}
 use Rattle.cluster_core.proofs.rounds.Stuck.{no_call_is_stuck}
-use Rattle.player.specs.declared.calm.Calm.{Calm}
-use Rattle.player.specs.declared.calm.Calm.TheVariants as calm
+use Rattle.player.specs.declared.rounds.Calm.{Calm}
+use Rattle.player.specs.declared.rounds.Calm.TheVariants as calm
 use Rattle.player.specs.rule.Rounds.{EndsAs, EndsSilent, IsCalmed, IsQuietRun, LeavesNoneStuck, NoneOpen, NoneStuck, works}
 use Rattle.player.proofs.FileRounds.{all_quiet, round_about}
 use Rattle.player.proofs.QuietRuns.{leads_append}

@@ -19,9 +19,8 @@ use Rattle.cluster_core.specs.rule.Journals.{delivery}
 use Rattle.lockscript.specs.declared.script_line.ScriptCommand.{ScriptCommand}
 use Rattle.lockscript.specs.declared.script_line.ScriptCommand.TheVariants.{Call, Deliver, Lose, Settle, Interrupt, Retry, Resend, Declare, Restart, Learn, FailServer, StartServer}
 use Rattle.lockscript.specs.rule.Scripts.{LineFields}
-use Rattle.player.specs.rule.Progress.{Progress, End, first_progress, after_delivery, index_of, settling, Ends, InTurn, Passes, IsLeastUnsettled, IsNextMessage, Delivers, IsSettled, Does}
-use Rattle.player.specs.rule.Played.{played_of}
-use Rattle.player.specs.code.Laws.{ComesToOne, FullComesToNothing}
+use Rattle.player.specs.rule.Progress.{Progress, End, first_progress, after_delivery, index_of, settling, Ends, InTurn, Passes, IsLeastUnsettled, IsNextMessage, Delivers, IsSettled, Does, played_of}
+use Rattle.player.specs.code.Rounds.{ComesToOne, FullComesToNothing}
 
 ends_one : (line : ℕ) (p : Progress) (q s : End) (r : Result (WorldState × Entry) Refused) → Ends line p r q → Ends line p r s → q ≡ s
 ends_one line p q s (Ok made) a b = a ∙ sym b

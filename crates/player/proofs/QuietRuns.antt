@@ -14,7 +14,7 @@ use Rattle.messages.specs.declared.refusal.Refused.TheVariants.{Fenced, Stranger
 use Rattle.messages.specs.declared.refusal.StepError.{StepError}
 use Rattle.messages.specs.declared.refusal.StepError.TheVariants as step
 use Rattle.messages.specs.rule.Messages.{addressee}
-use Rattle.messages.specs.rule.Refusals.{refused_by}
+use Rattle.messages.specs.rule.Entries.{refused_by}
 use Rattle.node_core.specs.declared.event.NodeEvent.TheVariants as node
 use Rattle.node_core.specs.rule.Node.{node_rule}
 use Rattle.token_server.specs.declared.event.ServerEvent.TheVariants as server

@@ -1,5 +1,5 @@
 -- How rounds end.
-use Rattle.std.specs.Prelude.{◌≡◌, ◌≢◌, List, [], ◌∷◌, ◌++◌, Contains, drop, length, refl}
+use Rattle.std.specs.Prelude.{◌≡◌, ◌≢◌, Bool, true, false, List, [], ◌∷◌, ◌++◌, Contains, drop, length, refl, Option}
 use Rattle.std.proofs.Common.{inl, inr, sym, ap, ◌∙◌, subst, append_assoc}
 use Rattle.std.proofs.lemmas.List.{map-append}
 use Rattle.std.proofs.lemmas.List.Elements.{All-contains, All-nil, Contains-append_left}
@@ -8,20 +8,19 @@ use Rattle.messages.specs.declared.event.Event.{Event}
 use Rattle.messages.specs.declared.event.Event.TheVariants.{Deliver}
 use Rattle.messages.specs.declared.refusal.Refused.{Refused}
 use Rattle.messages.specs.declared.refusal.Refused.TheVariants.{NoMemory}
-use Rattle.cluster_core.specs.rule.Journals.{RunFields, events_of}
+use Rattle.cluster_core.specs.rule.Journals.{JournalFields, RunFields, events_of}
 use Rattle.cluster_core.specs.rule.Parts.{world_state}
 use Rattle.cluster_core.specs.rule.Runs.{Leads}
 use Rattle.cluster_core.specs.rule.World.{WorldState, first_world}
 use Rattle.cluster_core.specs.rule.Rounds.{AnswersNone, IsQuiet}
 use Rattle.cluster_core.proofs.runs.JournalRuns.{leads_shape}
 use Rattle.messages.specs.rule.Shapes.{ShapeFields, IsShape}
-use Rattle.player.specs.code.Parts.{PlayerParts, progress}
-use Rattle.player.specs.rule.Played.{PlayedState, played_of}
-use Rattle.player.specs.declared.calm.Calm.{Calm}
-use Rattle.player.specs.declared.calm.Calm.TheVariants as calm
-use Rattle.player.specs.rule.Rounds.{NoneOpen, IsDue, EndsRefused, EndsAs, EndsCalm}
-use Rattle.player.specs.code.Due.{AreDue}
-use Rattle.player.specs.code.Rounds.{Arrives, EndsInRound, GoesByRound, GoesCalm, GoesQuietly, Stops, StopsAmong, StopsAtSent, TakesAll}
+use Rattle.lockscript.specs.rule.Scripts.{LineFields}
+use Rattle.player.specs.code.Rounds.{ComesOn, PlayerParts, progress, AreDue, Arrives, EndsInRound, GoesByRound, GoesCalm, GoesQuietly, Stops, StopsAmong, StopsAtSent, TakesAll}
+use Rattle.player.specs.rule.Progress.{Progress, first_progress, progress_after, PlayedState, ComesFrom, played_of}
+use Rattle.player.specs.declared.rounds.Calm.{Calm}
+use Rattle.player.specs.declared.rounds.Calm.TheVariants as calm
+use Rattle.player.specs.rule.Rounds.{Comes, GoesBehind, NoneOpen, IsDue, EndsRefused, EndsAs, EndsCalm}
 use Rattle.player.proofs.QuietRuns.{goes_append, leads_append, quiet_append}
 use Rattle.player.proofs.NoneStuck.{calmed_none_stuck}
 
@@ -196,3 +195,12 @@ ends_calm shape served p q end played led is refused calm = subst (EndsCalm (pla
   rounds = calm.2;
   none_stuck = calmed_none_stuck shape served p.run.entries calm.0 (world_state p.run.world) (world_state q.run.world) end led calm.2;
 })
+
+-- what lines come to on a cluster that begins, and behind the run of a journal
+pub comes : (calm : Bool) (shape : ShapeFields) (from : Progress) (lines : List LineFields) (played : PlayedState) (cut : Option Refused) → from ≡ first_progress shape → ComesOn calm shape from lines played cut → Comes calm shape lines played cut
+comes false shape from lines played cut begins is = (subst (λ (p : Progress). ComesFrom shape p lines played) begins is.0, is.1)
+comes true shape from lines played cut begins is = (is.0, is.1, subst (λ (p : Progress). ComesFrom shape p lines is.0) begins is.2, is.3, is.4)
+
+pub goes-behind : (calm : Bool) (j : JournalFields) (world : WorldState) (from : Progress) (lines : List LineFields) (played : PlayedState) (cut : Option Refused) → Leads (first_world j.shape) j.entries world → from ≡ progress_after j.entries world → ComesOn calm j.shape from lines played cut → GoesBehind calm j lines played cut
+goes-behind false j world from lines played cut leads behind is = ((world, (leads, subst (λ (p : Progress). ComesFrom j.shape p lines played) behind is.0)), is.1)
+goes-behind true j world from lines played cut leads behind is = (is.0, is.1, (world, (leads, subst (λ (p : Progress). ComesFrom j.shape p lines is.0) behind is.2)), is.3, is.4)

@@ -1,5 +1,2 @@
-pub mod Settled
-pub mod Laws
-pub mod Parts
-pub mod Due
 pub mod Rounds
+pub mod Answers

@@ -1,3 +1,3 @@
 pub mod Progress
-pub mod Played
 pub mod Rounds
+pub mod Expectations

@@ -1,14 +1,14 @@
 //! Runs the lines of scripts one after another on a cluster in one process, and gives the journal,
-//! the last world and the refused lines. This crate knows nothing of files on a disk, of texts that
-//! are printed, of time, or of threads.
+//! the last world and the refused lines. It says too whether a run comes to what comments of its script expect.
+//! This crate knows nothing of files on a disk, of time, or of threads.
 #![tactic(auto)]
 
-pub mod calm;
-mod due;
-pub mod laws;
+mod answers;
+pub mod compared;
 pub mod play;
-pub mod played;
 pub mod player;
 mod rounds;
 mod settled;
-pub mod watcher;
+
+pub use play::{Watcher, play_after};
+pub use player::{Played, Player};

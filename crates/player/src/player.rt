@@ -7,24 +7,16 @@ ghost use Rattle.cluster_core.specs.rule.Safe.{IsSafe};
 ghost use Rattle.cluster_core.specs.rule.World.{first_world};
 ghost use Rattle.messages.specs.declared.message.Message.{Message};
 ghost use Rattle.lockscript.specs.declared.play_error.PlayError.TheVariants.{NoMemory, JournalFull};
-ghost use Rattle.player.specs.code.Parts.{progress, state_of};
-ghost use Rattle.player.specs.rule.Played.{played_of};
-ghost use Rattle.player.specs.rule.Progress.{first_progress, progress_after, Delivers, Does, Ends, Happens, IsNextMessage, IsSettled, Settles};
+ghost use Rattle.player.specs.code.Rounds.{progress, state_of, GoesCalm, GoesQuietly, Stops, StopsAtSent};
+ghost use Rattle.player.specs.rule.Progress.{played_of, EndsIn, first_progress, progress_after, Delivers, Does, Ends, Happens, IsNextMessage, IsSettled, Settles};
 
-use crate::played::Played;
+use crate::rounds::{Calm, deliver, rounds};
 use crate::settled::Settled;
-use cluster_core::journal::Journal;
-use cluster_core::run::Run;
-use lockscript::play_error::PlayError;
-use lockscript::refused_line::RefusedLine;
-use lockscript::script_line::{ScriptCommand, ScriptLine};
-use messages::event::{Event, MemberEvent, NodeInput, ServerInput};
-use messages::refusal::Refused;
-use messages::shape::Shape;
+use cluster_core::{Journal, Run, World};
+use lockscript::{PlayError, RefusedLine, ScriptCommand, ScriptLine};
+use messages::{Event, MemberEvent, NodeInput, Refused, ServerInput, Shape};
 use std::alloc::Global;
 use std::marker::Model;
-
-mod calming;
 
 /// A script that is run so far: the world, the entries that led to it, the messages that are
 /// settled (delivered, lost or passed over), and the lines that were refused.
@@ -36,7 +28,7 @@ pub struct Player {
 }
 
 impl Model for Player {
-    ghost use Rattle.player.specs.code.Parts.{PlayerParts};
+    ghost use Rattle.player.specs.code.Rounds.{PlayerParts};
 
     ghost Value = { PlayerParts };
 
@@ -122,21 +114,15 @@ impl Player {
     {
         match command {
             ScriptCommand::Call { node, pid, op } => {
-                self.step(
-                    alloc,
-                    number,
-                    Event::AtNode(node, NodeInput::Call { pid, op }),
-                )
+                let input = NodeInput::Call { pid, op };
+                self.step(alloc, number, Event::AtNode(node, input))
             }
             ScriptCommand::Deliver { message } => self.deliver(alloc, number, message),
             ScriptCommand::Lose { message } => self.lose(number, message),
             ScriptCommand::Settle => self.settle(alloc, number),
             ScriptCommand::Interrupt { node, pid } => {
-                self.step(
-                    alloc,
-                    number,
-                    Event::AtNode(node, NodeInput::Interrupt { pid }),
-                )
+                let input = NodeInput::Interrupt { pid };
+                self.step(alloc, number, Event::AtNode(node, input))
             }
             ScriptCommand::Retry { node, pid } => {
                 self.step(alloc, number, Event::AtNode(node, NodeInput::Retry { pid }))
@@ -159,18 +145,12 @@ impl Player {
                 self.step(alloc, number, Event::AtServer(file, input))
             }
             ScriptCommand::FailServer { file } => {
-                self.step(
-                    alloc,
-                    number,
-                    Event::Member(MemberEvent::FailServer { file }),
-                )
+                let event = MemberEvent::FailServer { file };
+                self.step(alloc, number, Event::Member(event))
             }
             ScriptCommand::StartServer { file } => {
-                self.step(
-                    alloc,
-                    number,
-                    Event::Member(MemberEvent::StartServer { file }),
-                )
+                let event = MemberEvent::StartServer { file };
+                self.step(alloc, number, Event::Member(event))
             }
         }
     }
@@ -280,7 +260,7 @@ impl Player {
     }
 
     /// The outcome of all lines, on a cluster of this shape.
-    pub fn finish(self, shape: Shape) -> Played
+    pub(crate) fn finish(self, shape: Shape) -> Played
         requires { Leads (first_world shape) self.run.entries (progress self).world }
         ensures value { state_of result ≡ played_of shape (progress self) }
         ensures history { HasOneHistory shape result.journal.entries }
@@ -288,5 +268,112 @@ impl Player {
     {
         let (journal, world) = self.run.into_journal();
         Played::new(journal, world, self.refused)
+    }
+
+    /// Goes on behind the lines, on a cluster of this shape: what is under way is delivered, and then rounds follow until no
+    /// open call is answered any more. Gives how they end. Nothing is listed as refused.
+    ///
+    /// # Errors
+    /// `NoMemory` where a request for memory was refused.
+    pub(crate) fn calm(&mut self, alloc: Global, shape: Shape) -> Result<Calm, PlayError>
+        requires { self.old.run.world.shape ≡ shape }
+        ensures calm { IfOk result (GoesCalm self.old.run self.new.run) }
+        ensures refused { self.new.refused ≡ self.old.refused }
+        ensures err { IfErr result (λ error. error ≡ NoMemory) }
+    {
+        match self.go_round(alloc, shape) {
+            Ok(end) => Ok(end),
+            Err(Refused::NoMemory) => Err(PlayError::NoMemory),
+            Err(refusal) => Ok(Calm::Refused(refusal)),
+        }
+    }
+
+    // The same, up to the first event that is refused.
+    fn go_round(&mut self, alloc: Global, shape: Shape) -> Result<Calm, Refused>
+        requires { self.old.run.world.shape ≡ shape }
+        ensures goes { GoesQuietly self.old.run self.new.run }
+        ensures calm { IfOk result (GoesCalm self.old.run self.new.run) }
+        ensures stops { IfErr result (Stops self.old.run self.new.run) }
+        ensures refused { self.new.refused ≡ self.old.refused }
+    {
+        self.deliver_rest(alloc)?;
+        rounds(&mut self.run, alloc, shape)
+    }
+
+    // Delivers the messages that aren't settled, in the order in which they were sent, also ones that are sent meanwhile.
+    fn deliver_rest(&mut self, alloc: Global) -> Result<(), Refused>
+        ensures goes { GoesQuietly self.old.run self.new.run }
+        ensures stops { IfErr result (StopsAtSent self.new.run) }
+        ensures refused { self.new.refused ≡ self.old.refused }
+    {
+        while self.has_next() {
+            let place = self.settled.cursor();
+            self.settled.pass();
+            deliver(&mut self.run, alloc, place)?;
+        }
+        Ok(())
+    }
+}
+
+/// The outcome of a script: the journal of its run; the world to which the journal's entries lead;
+/// and the refused lines in order, each by its number, from 1, with the number of its refusal.
+#[derive(Drop)]
+pub struct Played {
+    journal: Journal,
+    world: World,
+    refused: Vec<RefusedLine>,
+}
+
+impl Model for Played {
+    ghost use Rattle.cluster_core.specs.rule.Parts.{world_state};
+    ghost use Rattle.player.specs.code.Rounds.{PlayedParts};
+    ghost use Rattle.player.specs.rule.Progress.{EndsIn};
+
+    ghost Value = { PlayedParts };
+
+    ghost view = { λ p. record { journal = p.journal; world = p.world; refused = p.refused.items } };
+
+    ghost invariant = { λ p. EndsIn p.journal (world_state p.world) };
+}
+
+impl Played {
+    pub(crate) fn new(journal: Journal, world: World, refused: Vec<RefusedLine>) -> Played
+        requires { EndsIn journal (world_state world) }
+        ensures { result ≡ record { journal = journal; world = world; refused = refused.items } }
+    {
+        Played {
+            journal,
+            world,
+            refused,
+        }
+    }
+
+    /// The journal of the run.
+    pub fn journal(&self) -> &Journal
+        ensures { result.now ≡ self.now.journal }
+    {
+        &self.journal
+    }
+
+    /// The refused lines in order, each by its number, from 1, with the number of its refusal.
+    pub fn refused(&self) -> &[RefusedLine]
+        ensures { result.now ≡ self.now.refused }
+    {
+        self.refused.as_slice()
+    }
+
+    /// The journal of the run, the world at its end, and the refused lines.
+    pub fn into_parts(self) -> (Journal, World, Vec<RefusedLine>)
+        ensures journal { result.0 ≡ self.journal }
+        ensures world { result.1 ≡ self.world }
+        ensures refused { result.2.items ≡ self.refused }
+        ensures ends { EndsIn self.journal (world_state self.world) }
+    {
+        let Played {
+            journal,
+            world,
+            refused,
+        } = self;
+        (journal, world, refused)
     }
 }

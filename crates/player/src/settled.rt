@@ -1,7 +1,7 @@
 //! Which messages of a run are settled: delivered, lost or passed over.
 ghost use Rattle.std.specs.Prelude.{◌≡◌, ◌≤◌, ◌<◌, ◌+◌, false, nat_lt, true, length, slice_index_or, slice_set, OnOk};
 ghost use Rattle.player.specs.rule.Progress.{with_settled, IsLeastUnsettled};
-ghost use Rattle.player.specs.code.Settled.{settled_in};
+ghost use Rattle.player.specs.code.Rounds.{settled_in};
 
 use std::alloc::{AllocError, Global};
 use std::marker::Model;
@@ -15,7 +15,7 @@ pub(crate) struct Settled {
 }
 
 impl Model for Settled {
-    ghost use Rattle.player.specs.code.Settled.{SettledParts};
+    ghost use Rattle.player.specs.code.Rounds.{SettledParts};
 
     ghost Value = { SettledParts };
 

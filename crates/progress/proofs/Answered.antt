@@ -9,14 +9,12 @@ use Rattle.model.specs.declared.lock_info.LockInfo.{LockInfo}
 use Rattle.messages.specs.declared.token_run.TokenRun.{TokenRun}
 use Rattle.model.specs.declared.mode.Mode.{Mode}
 use Rattle.model.specs.rule.Owners.{host_of_call}
-use Rattle.token_set.specs.rule.Releases.{lowered}
-use Rattle.token_set.proofs.SearchLaws.{some_passes-from}
-use Rattle.token_set.specs.rule.Tokens.{conflicts}
-use Rattle.messages.specs.rule.Messages.{host_of, is_within}
-use Rattle.messages.specs.rule.Reports.{reported}
+use Rattle.token_set.specs.rule.Tokens.{lowered, conflicts}
+use Rattle.token_set.proofs.TokenLaws.{some_passes-from}
+use Rattle.messages.specs.rule.Messages.{host_of, is_within, reported}
 use Rattle.messages.specs.declared.message.Message.{Message}
 use Rattle.messages.specs.declared.message.Message.TheVariants.{Request, Grant, Revoke, Taken, Released, Conflict, Deny, Freed, Hello, Report}
-use Rattle.token_server.proofs.FreeLaws.{row_after-fewer}
+use Rattle.token_server.proofs.ObstacleLaws.{row_after-fewer}
 use Rattle.token_server.specs.declared.known_nodes.known_change.KnownChange.TheVariants.{Relieved}
 use Rattle.token_server.specs.declared.token_queue.token_request.TokenRequest.{TokenRequest}
 use Rattle.token_server.specs.rule.Requests.{is_of_call}

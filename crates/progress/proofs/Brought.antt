@@ -6,8 +6,7 @@ use Rattle.std.proofs.lemmas.Bool.{both_ways, eq-eqb}
 use Rattle.model.specs.declared.call.CallId.{CallId}
 use Rattle.model.specs.declared.mode.Mode.{Mode}
 use Rattle.model.specs.rule.Owners.{host_of_call}
-use Rattle.token_set.specs.rule.Tokens.{no_token, conflicts}
-use Rattle.token_set.specs.rule.Releases.{lowered}
+use Rattle.token_set.specs.rule.Tokens.{no_token, conflicts, lowered}
 use Rattle.token_set.proofs.TokenLaws.{conflicts-none}
 use Rattle.messages.specs.rule.Messages.{same_blocking}
 use Rattle.messages.specs.declared.message.Blocking.TheVariants.{Yes}

@@ -7,7 +7,7 @@ use Rattle.intervals.specs.rule.Bytes.{Range}
 use Rattle.intervals.specs.rule.Search.{first}
 use Rattle.model.specs.declared.mode.Mode.{Mode}
 use Rattle.token_set.specs.rule.Tokens.{Token, conflicts}
-use Rattle.token_set.proofs.SearchLaws.{some_passes-first, some_passes-from}
+use Rattle.token_set.proofs.TokenLaws.{some_passes-first, some_passes-from}
 use Rattle.messages.specs.rule.Shapes.{ShapeFields}
 use Rattle.token_server.specs.declared.token_queue.token_request.TokenRequest.{TokenRequest}
 use Rattle.token_server.specs.rule.Requests.{is_up_to}

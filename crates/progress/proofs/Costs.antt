@@ -6,7 +6,7 @@ use Rattle.std.proofs.lemmas.List.Elements.{All-head, All-tail}
 use Rattle.intervals.specs.rule.Search.{first}
 use Rattle.intervals.proofs.SearchLaws.{first_is_first}
 use Rattle.model.specs.rule.Owners.{same_mode}
-use Rattle.token_set.proofs.SearchLaws.{first-same}
+use Rattle.token_set.proofs.TokenLaws.{first-same}
 use Rattle.messages.specs.rule.Shapes.{ShapeFields}
 use Rattle.messages.specs.rule.Messages.{same_range}
 use Rattle.messages.specs.declared.message.Message.{Message}

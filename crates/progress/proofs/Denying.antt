@@ -6,9 +6,8 @@ use Rattle.model.specs.declared.host.Host.{Host}
 use Rattle.model.specs.declared.lock_info.LockInfo.{LockInfo}
 use Rattle.model.specs.declared.mode.Mode.{Mode}
 use Rattle.model.specs.rule.Owners.{host_of_call}
-use Rattle.token_set.specs.rule.Releases.{lowered}
-use Rattle.messages.specs.rule.Messages.{same_blocking}
-use Rattle.messages.specs.rule.Reports.{reported}
+use Rattle.token_set.specs.rule.Tokens.{lowered}
+use Rattle.messages.specs.rule.Messages.{same_blocking, reported}
 use Rattle.messages.specs.declared.message.Blocking.TheVariants.{No}
 use Rattle.messages.specs.declared.message.Message.{Message}
 use Rattle.messages.specs.declared.message.Message.TheVariants.{Request, Grant, Revoke, Taken, Released, Conflict, Deny, Freed, Hello, Report}

@@ -12,11 +12,10 @@ use Rattle.model.specs.declared.lock_info.LockInfo.{LockInfo}
 use Rattle.model.specs.declared.mode.Mode.{Mode}
 use Rattle.model.specs.declared.mode.Mode.TheVariants.{Read, Write}
 use Rattle.model.specs.rule.Owners.{same_mode}
-use Rattle.token_set.specs.rule.Tokens.{Token, conflicts, level_conflicts}
-use Rattle.token_set.specs.rule.Releases.{lowered_level, lowered}
+use Rattle.token_set.specs.rule.Tokens.{Token, conflicts, level_conflicts, lowered_level, lowered}
 use Rattle.token_set.proofs.TokenLaws.{conflicts-none}
 use Rattle.messages.specs.rule.Shapes.{ShapeFields, IsShape}
-use Rattle.messages.specs.rule.Wants.{Wants}
+use Rattle.messages.specs.rule.TokenRuns.{Wants}
 use Rattle.messages.specs.rule.Messages.{file_of, same_range}
 use Rattle.messages.specs.declared.message.Message.{Message}
 use Rattle.messages.specs.declared.message.Message.TheVariants.{Request, Grant, Revoke, Taken, Released, Conflict, Deny, Freed, Hello, Report}

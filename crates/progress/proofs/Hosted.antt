@@ -7,8 +7,7 @@ use Rattle.std.proofs.lemmas.Option.{none-some, same_Some}
 use Rattle.std.proofs.lemmas.List.Elements.{All-head, All-tail, All-weaker}
 use Rattle.model.specs.declared.host.Host.{Host}
 use Rattle.messages.specs.rule.Shapes.{ShapeFields, IsShape}
-use Rattle.messages.specs.rule.Messages.{addressee, host_of, is_among, is_within, sending}
-use Rattle.messages.specs.rule.Reports.{runs_of}
+use Rattle.messages.specs.rule.Messages.{addressee, host_of, is_among, is_within, sending, runs_of}
 use Rattle.messages.specs.declared.refusal.StepError.{StepError}
 use Rattle.messages.specs.declared.refusal.StepError.TheVariants.{Stranger}
 use Rattle.messages.specs.declared.actor.Actor.{Actor}

@@ -16,7 +16,7 @@ use Rattle.messages.specs.declared.refusal.StepError.{StepError}
 use Rattle.messages.specs.declared.refusal.StepError.TheVariants.{Spent}
 use Rattle.messages.specs.declared.message.Message.{Message}
 use Rattle.messages.specs.declared.message.Message.TheVariants.{Grant, Revoke}
-use Rattle.messages.specs.rule.Wants.{Wants}
+use Rattle.messages.specs.rule.TokenRuns.{Wants}
 use Rattle.token_server.specs.declared.token_queue.token_request.TokenRequest.{TokenRequest}
 use Rattle.token_server.specs.rule.Rows.{Row, outstanding_of}
 use Rattle.token_server.specs.rule.State.{ServerState, begin, awaits, with_row, requests}

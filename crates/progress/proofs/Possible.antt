@@ -25,7 +25,7 @@ use Rattle.node_core.specs.rule.Commands.{delivered, deliver_rule, is_node}
 use Rattle.node_core.specs.rule.Retries.{retry_rule}
 use Rattle.node_core.specs.rule.Try.{tried_if}
 use Rattle.node_core.specs.rule.Node.{node_rule}
-use Rattle.token_server.proofs.RefusalLaws.{resend-spent, learn-spent, deliver-spent}
+use Rattle.token_server.proofs.SketchLaws.{resend-spent, learn-spent, deliver-spent}
 use Rattle.token_server.specs.declared.event.ServerEvent.TheVariants as server
 use Rattle.token_server.specs.rule.State.{ServerState}
 use Rattle.token_server.specs.rule.Server.{is_server, server_rule}

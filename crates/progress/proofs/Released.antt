@@ -12,11 +12,10 @@ use Rattle.model.specs.declared.host.Host.{Host}
 use Rattle.model.specs.declared.lock_info.LockInfo.{LockInfo}
 use Rattle.model.specs.declared.mode.Mode.{Mode}
 use Rattle.model.specs.rule.Locks.{lowest_in_way}
-use Rattle.token_set.specs.rule.Releases.{is_in_way, given_up_span, answer_of}
+use Rattle.token_set.specs.rule.Tokens.{is_in_way, given_up_span, answer_of}
 use Rattle.messages.specs.rule.Shapes.{ShapeFields, IsShape}
-use Rattle.messages.specs.rule.Wants.{Wants}
-use Rattle.messages.specs.rule.Messages.{addressee, is_among, is_within, sending}
-use Rattle.messages.specs.rule.Reports.{runs_of}
+use Rattle.messages.specs.rule.TokenRuns.{Wants}
+use Rattle.messages.specs.rule.Messages.{addressee, is_among, is_within, sending, runs_of}
 use Rattle.messages.specs.declared.refusal.StepError.{StepError}
 use Rattle.messages.specs.declared.refusal.StepError.TheVariants.{Stranger}
 use Rattle.messages.specs.declared.actor.Actor.{Actor}

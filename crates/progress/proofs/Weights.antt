@@ -11,11 +11,10 @@ use Rattle.model.specs.declared.op.LockCommand.TheVariants as lock_command
 use Rattle.model.specs.declared.reply.Reply.{Reply}
 use Rattle.model.specs.rule.Locks.{lowest_blocker}
 use Rattle.model.specs.rule.Table.{Table, LockTarget, lock_within}
-use Rattle.token_set.specs.rule.Tokens.{covers, raised}
+use Rattle.token_set.specs.rule.Tokens.{covers, raised, gave_up}
 use Rattle.token_set.specs.declared.gave_up.GaveUp.{GaveUp}
 use Rattle.token_set.specs.declared.gave_up.GaveUp.TheVariants as gave
-use Rattle.token_set.specs.rule.Releases.{gave_up}
-use Rattle.messages.specs.rule.Wants.{Wants}
+use Rattle.messages.specs.rule.TokenRuns.{Wants}
 use Rattle.messages.specs.declared.message.Message.{Message}
 use Rattle.messages.specs.declared.message.Message.TheVariants.{Request, Grant, Revoke, Taken, Released, Conflict, Deny, Freed, Hello, Report}
 use Rattle.messages.specs.declared.event.Event.{Event}

@@ -1,7 +1,7 @@
 -- Drafts that get more bytes.
-use Rattle.std.proofs.Common.{◌≡◌, ℕ, ◌+◌, List, [], ◌∷◌, ◌++◌, codes, length, refl, sym, ◌∙◌, ap, subst, append_assoc, append-nil, Option, Some, None}
+use Rattle.std.proofs.Common.{◌≡◌, ℕ, ◌+◌, List, [], ◌++◌, codes, length, refl, sym, ◌∙◌, ap, subst, append_assoc, append-nil, Option, Some, None}
 use Rattle.std.specs.Prelude.{◌≢◌}
-use Rattle.journal_text.specs.rule.Journals.{end_text, entries_text, entry_text, head_text, journal_text}
+use Rattle.journal_text.specs.rule.Journals.{end_text, entries_text, head_text, journal_text}
 use Rattle.journal_text.specs.rule.Readings.{WritesJournal}
 use Rattle.cluster_core.specs.rule.Journals.{JournalFields}
 use Rattle.messages.specs.declared.entry.Entry.{Entry}

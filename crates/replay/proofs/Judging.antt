@@ -5,8 +5,8 @@ use Rattle.std.specs.Global.{Global}
 use Rattle.std.proofs.lemmas.List.{take_all}
 use Rattle.std.proofs.lemmas.List.Elements.{All-more, All-weaker}
 use Rattle.history_text.specs.declared.rule.Allowed.{Allowed}
-use Rattle.judgements.specs.declared.judging.JudgementOutcome.{JudgementOutcome}
-use Rattle.judgements.specs.declared.judging.JudgementOutcome.TheVariants as outcome
+use Rattle.history_text.specs.declared.judging.JudgementOutcome.{JudgementOutcome}
+use Rattle.history_text.specs.declared.judging.JudgementOutcome.TheVariants as outcome
 use Rattle.replay.specs.declared.shown.Shown.{Shown}
 use Rattle.replay.specs.declared.shown.Shown.TheVariants.{Text, Wanting, Partial, Undecided, CutShort, Yes, No}
 use Rattle.replay.specs.rule.Judging.{AreJudged, HasHistoryAt, IsSaidIn, IsSaidOf, shown_of}

@@ -7,11 +7,8 @@ use Rattle.messages.specs.declared.version.Version.{Version}
 use Rattle.messages.specs.declared.version.Version.TheVariants.{First, Second}
 use Rattle.journal_text.specs.rule.Readings.{IsOld, WritesJournal}
 use Rattle.journal_text.proofs.FirstLines.{old_text}
-use Rattle.lockscript.specs.rule.Scripts.{ScriptFields}
-use Rattle.lockscript.specs.rule.ShapedScripts.{IsForShape, IsRefusedForShape}
-use Rattle.lockscript.specs.declared.error.ParseError.{ParseError}
+use Rattle.lockscript.specs.rule.ShapedScripts.{IsForShape}
 use Rattle.lockscript.specs.declared.error.ParseError.TheVariants as parse
-use Rattle.lockscript.specs.declared.play_error.PlayError.{PlayError}
 use Rattle.lockscript.specs.declared.play_error.PlayError.TheVariants as play
 use Rattle.replay.specs.declared.fault.Fault.{Fault}
 use Rattle.replay.specs.declared.fault.Fault.TheVariants.{BadLine, CannotRead, CannotWrite, CannotWriteOutput, NoMemory, JournalFull, OldJournal, Faulty}
@@ -20,12 +17,13 @@ use Rattle.replay.specs.rule.Audits.{HasNewJournal}
 use Rattle.replay.specs.declared.shown.Shown.{Shown}
 use Rattle.replay.specs.declared.shown.Shown.TheVariants.{Text, Wanting, Partial, Undecided, CutShort, Yes, No}
 use Rattle.replay.specs.rule.Commands.{GoesOn, IsFault, WentOn}
-use Rattle.replay.specs.rule.Faults.{IsBehindFault, IsOldFault, IsTextFault, fault_of_parse, fault_of_play}
-use Rattle.player.specs.rule.Played.{FillsBehind, PlayedState}
-use Rattle.replay.specs.rule.Scripts.{HasComparedRun, HasComparedRunBehind, HasRun, HasRunBehind, HasScriptFor}
+use Rattle.replay.specs.rule.Faults.{IsBehindFault, IsOldFault, IsTextFault}
+use Rattle.player.specs.rule.Progress.{PlayedState}
+use Rattle.replay.specs.rule.Scripts.{HasComparedRun, HasComparedRunBehind, HasRun, HasRunBehind}
 use Rattle.replay.specs.rule.Stores.{Files, SameFiles}
-use Rattle.replay.proofs.Journals.{has-journal}
+use Rattle.replay.proofs.Audits.{has-journal}
 use Rattle.replay.proofs.Stores.{had-no_text, had-text, same-after}
+use Rattle.replay.proofs.Tools.{input-fault}
 
 -- a text that writes a journal of version 1 begins as one
 old-journal : (text : List ℕ) (j : JournalFields) → WritesJournal text j.shape j.entries → j.shape.version ≡ First → IsOld text
@@ -77,22 +75,10 @@ had-compared old new script journal j compares calm telling played same files ha
     (is.0, is.1, had-text old new script _ files is.2, is.3)
 
 -- why a script does not go on behind the run of a journal is a fault of the whole
-is-going : (old new : Files) (RanShort : Type 0) (Refuses : List ℕ → Type 0) (script after : List ℕ) (to : Option (List ℕ)) (compares quiet calm : Bool) (j : JournalFields) (fault : Fault) → HasNewJournal (old after) j → IsRun j.shape j.entries → SameFiles old new
-    → IsBehindFault j (old script) RanShort script fault → (fault ≢ CannotWriteOutput) × IsFault old RanShort Refuses (run script (Some after) to compares quiet calm) new fault
-is-going old new RanShort Refuses script after to compares quiet calm j (BadLine line) has ran same is = (λ e. absurd (cc), (inr (j, has, ran, is), same))
-is-going old new RanShort Refuses script after to compares quiet calm j (CannotRead named reason) has ran same is = (λ e. absurd (cc), (inr (j, has, ran, is), same))
-is-going old new RanShort Refuses script after to compares quiet calm j NoMemory has ran same is = (λ e. absurd (cc), (inr (j, has, ran, is), same))
-is-going old new RanShort Refuses script after to compares quiet calm j JournalFull has ran same is = (λ e. absurd (cc), (inr (j, has, ran, is), same))
-is-going old new RanShort Refuses script after to compares quiet calm j (CannotWrite named reason) has ran same is = absurd is
-is-going old new RanShort Refuses script after to compares quiet calm j CannotWriteOutput has ran same is = absurd is
-is-going old new RanShort Refuses script after to compares quiet calm j OldJournal has ran same is = absurd is
-is-going old new RanShort Refuses script after to compares quiet calm j (Faulty report) has ran same is = absurd is
-
--- behind the run of the journal
 pub going-fault : (old begun new : Files) (RanShort : Type 0) (Refuses : List ℕ → Type 0) (script after : List ℕ) (to : Option (List ℕ)) (compares quiet calm : Bool) (journal j : JournalFields) (fault : Fault) → HasNewJournal (old after) j → journal ≡ j → IsRun j.shape j.entries → SameFiles old begun → SameFiles begun new
     → IsBehindFault journal (begun script) RanShort script fault → (fault ≢ CannotWriteOutput) × IsFault old RanShort Refuses (run script (Some after) to compares quiet calm) new fault
 going-fault old begun new RanShort Refuses script after to compares quiet calm journal j fault has same ran before behind is =
-    is-going old new RanShort Refuses script after to compares quiet calm j fault has ran (same-after old begun new before behind)
+    input-fault old new RanShort Refuses (run script (Some after) to compares quiet calm) (IsBehindFault j (old script) RanShort script) fault (same-after old begun new before behind) (λ named reason never. never) (λ never. never) (λ is. inr (j, has, ran, is))
     (had-fault old begun RanShort script j fault before (subst (λ (k : JournalFields). IsBehindFault k (begun script) RanShort script fault) same is))
 
 -- what is shown of the whole run

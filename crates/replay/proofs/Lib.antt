@@ -1,11 +1,8 @@
-pub mod Counting
 pub mod Sections
 pub mod Stores
 pub mod Paths
 pub mod Drafts
-pub mod ThreadLines
 pub mod Audits
-pub mod Journals
 pub mod LaterRuns
 pub mod Outputs
 pub mod Refused
@@ -13,4 +10,4 @@ pub mod Begins
 pub mod LeftFiles
 pub mod Judging
 pub mod Tools
-pub mod NoneStuck
+pub mod OnThreads

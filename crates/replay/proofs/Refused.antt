@@ -8,9 +8,7 @@ use Rattle.replay.specs.declared.fault.Fault.{Fault}
 use Rattle.replay.specs.declared.fault.Fault.TheVariants.{BadLine, CannotRead, CannotWrite, CannotWriteOutput, JournalFull, OldJournal, Faulty}
 use Rattle.replay.specs.declared.fault.Fault.TheVariants as fault
 use Rattle.replay.specs.declared.shown.Shown.{Shown}
-use Rattle.replay.specs.rule.Commands.{Leaves}
-use Rattle.replay.specs.rule.Refusals.{IsHelp, refusal_status, refusal_text}
-use Rattle.replay.specs.rule.Statuses.{status_of}
+use Rattle.replay.specs.rule.Commands.{Leaves, IsHelp, refusal_status, refusal_text, status_of}
 
 -- refused words end with 3 only where help could not be shown
 pub refused-unshown : (words : List (List ℕ)) (r : Refusal) (status : ℕ) (A F E B Failed Told C D : Type 0) → IsRefusal words r → (IsHelp r → ((status ≡ 0) × A × F × E) ⊎ ((status ≡ 3) × B × Failed × Told)) → (¬ (IsHelp r) → (status ≡ refusal_status r) × C × D) → status ≡ 3 → AsksForHelp words × Failed × Told

@@ -8,13 +8,13 @@ use Rattle.messages.specs.declared.entry.Entry.{Entry}
 use Rattle.cluster_core.specs.declared.held_lock.HeldLock.{HeldLock}
 use Rattle.cluster_core.specs.declared.item.Item.{Item}
 use Rattle.cluster_core.specs.declared.node_token_run.NodeTokenRun.{NodeTokenRun}
-use Rattle.cluster_core.specs.code.Placement.{items_in}
+use Rattle.cluster_core.specs.code.Calls.{items_in}
 use Rattle.lockscript.specs.declared.refused_line.RefusedLine.{RefusedLine}
 use Rattle.lockscript.specs.rule.Listing.{listing_text, listing_start, history_line, history_text}
 use Rattle.placement.specs.declared.slot.Slot.{Slot}
-use Rattle.placement.specs.code.Standing.{stands, standing}
+use Rattle.placement.specs.code.Indexes.{stands, standing}
 use Rattle.placement.proofs.Placing.{items_more}
-use Rattle.player.specs.rule.Played.{PlayedState}
+use Rattle.player.specs.rule.Progress.{PlayedState}
 use Rattle.replay.specs.rule.Audits.{IsHistoryText}
 use Rattle.replay.specs.rule.Scripts.{IsListing, IsListingBegun}
 

@@ -1,14 +1,14 @@
--- Lemmas on faults of tools.
-use Rattle.std.proofs.Common.{◌≢◌, ℕ, List, Result, sym, subst}
+-- Lemmas on faults of what tools and commands read.
+use Rattle.std.proofs.Common.{◌≢◌, ℕ, Bor, List, Result, sym, subst}
 use Rattle.std.specs.Prelude.{IfErr}
 use Rattle.std.proofs.lemmas.Result.{IfErr-weaker}
 use Rattle.command_line.specs.rule.Tasks.{Task}
+use Rattle.replay.specs.declared.store.FileReason.{FileReason}
 use Rattle.replay.specs.declared.fault.Fault.{Fault}
 use Rattle.replay.specs.declared.fault.Fault.TheVariants.{BadLine, CannotRead, CannotWrite, CannotWriteOutput, NoMemory, JournalFull, OldJournal, Faulty}
 use Rattle.replay.specs.rule.Commands.{IsFault, IsInputFault}
-use Rattle.replay.specs.rule.Faults.{IsTextless}
+use Rattle.replay.specs.rule.Faults.{IsTextless, IsToolFault}
 use Rattle.replay.specs.rule.Stores.{Files, HasNoText, SameFiles}
-use Rattle.replay.specs.rule.ToolFaults.{IsToolFault}
 use Rattle.replay.proofs.Stores.{had-no_text}
 
 -- a file that the tool reads has no text
@@ -33,18 +33,18 @@ tool-weaker old mid R S JournalFull same reads is = absurd is
 tool-weaker old mid R S OldJournal same reads is = absurd is
 tool-weaker old mid R S (Faulty report) same reads is = tt
 
--- a fault of a tool is one of the command
-tool-fault : (old new : Files) (RanShort : Type 0) (Refuses : List ℕ → Type 0) (task : Task) (Reads : List ℕ → Type 0) (fault : Fault) → SameFiles old new
-    → (IsToolFault old Reads fault → IsInputFault old RanShort task fault) → IsToolFault old Reads fault → (fault ≢ CannotWriteOutput) × IsFault old RanShort Refuses task new fault
-tool-fault old new RanShort Refuses task Reads (BadLine line) same input is = absurd is
-tool-fault old new RanShort Refuses task Reads (CannotRead named reason) same input is = (λ e. absurd (cc), (input is, same))
-tool-fault old new RanShort Refuses task Reads (CannotWrite named reason) same input is = absurd is
-tool-fault old new RanShort Refuses task Reads CannotWriteOutput same input is = absurd is
-tool-fault old new RanShort Refuses task Reads NoMemory same input is = (λ e. absurd (cc), (input is, same))
-tool-fault old new RanShort Refuses task Reads JournalFull same input is = absurd is
-tool-fault old new RanShort Refuses task Reads OldJournal same input is = absurd is
-tool-fault old new RanShort Refuses task Reads (Faulty report) same input is = (λ e. absurd (cc), (input is, same))
+-- a fault of what the task reads is one of the command
+pub input-fault : (old new : Files) (RanShort : Type 0) (Refuses : List ℕ → Type 0) (task : Task) (Is : Fault → Type 0) (fault : Fault) → SameFiles old new → ((named : Bor (List ℕ)) (reason : FileReason) → Is (CannotWrite named reason) → ⊥) → (Is CannotWriteOutput → ⊥)
+    → (Is fault → IsInputFault old RanShort task fault) → Is fault → (fault ≢ CannotWriteOutput) × IsFault old RanShort Refuses task new fault
+input-fault old new RanShort Refuses task Is (BadLine line) same no_file no_output input is = (λ e. absurd (cc), (input is, same))
+input-fault old new RanShort Refuses task Is (CannotRead named reason) same no_file no_output input is = (λ e. absurd (cc), (input is, same))
+input-fault old new RanShort Refuses task Is (CannotWrite named reason) same no_file no_output input is = absurd (no_file named reason is)
+input-fault old new RanShort Refuses task Is CannotWriteOutput same no_file no_output input is = absurd (no_output is)
+input-fault old new RanShort Refuses task Is NoMemory same no_file no_output input is = (λ e. absurd (cc), (input is, same))
+input-fault old new RanShort Refuses task Is JournalFull same no_file no_output input is = (λ e. absurd (cc), (input is, same))
+input-fault old new RanShort Refuses task Is OldJournal same no_file no_output input is = (λ e. absurd (cc), (input is, same))
+input-fault old new RanShort Refuses task Is (Faulty report) same no_file no_output input is = (λ e. absurd (cc), (input is, same))
 
 pub tool-result : {A : Type 0} (old new : Files) (RanShort : Type 0) (Refuses : List ℕ → Type 0) (task : Task) (Reads : List ℕ → Type 0) (result : Result A Fault) → SameFiles old new
     → ((fault : Fault) → IsToolFault old Reads fault → IsInputFault old RanShort task fault) → IfErr result (IsToolFault old Reads) → IfErr result (λ fault. (fault ≢ CannotWriteOutput) × IsFault old RanShort Refuses task new fault)
-tool-result old new RanShort Refuses task Reads result same input told = IfErr-weaker result _ _ (λ fault is. tool-fault old new RanShort Refuses task Reads fault same (input fault) is) told
+tool-result old new RanShort Refuses task Reads result same input told = IfErr-weaker result _ _ (λ fault is. input-fault old new RanShort Refuses task (IsToolFault old Reads) fault same (λ named reason never. never) (λ never. never) (input fault) is) told

@@ -1,14 +1,6 @@
-pub mod Counts
-pub mod Outputs
 pub mod Stores
-pub mod Statuses
-pub mod Showing
 pub mod Scripts
-pub mod Threads
 pub mod Audits
 pub mod Faults
-pub mod ToolFaults
-pub mod Tellings
 pub mod Judging
 pub mod Commands
-pub mod Refusals

@@ -5,25 +5,18 @@ ghost use Rattle.cluster_core.specs.rule.World.{journal_limit};
 ghost use Rattle.command_line.specs.rule.Tasks.{audit, history};
 ghost use Rattle.journal_text.specs.rule.Readings.{HasLength};
 ghost use Rattle.replay.specs.declared.fault.Fault.TheVariants.{CannotWriteOutput, NoMemory};
-ghost use Rattle.replay.specs.rule.Audits.{HasJournal, HasNewJournal, IsAudited, IsHistoryText, IsHistoryUnless, IsVerdict, WritesFew, Knows};
+ghost use Rattle.replay.specs.rule.Audits.{HasJournal, HasNewJournal, IsAudited, IsHistoryUnless, IsVerdict, WritesFew, Knows};
 ghost use Rattle.replay.specs.rule.Commands.{Does, IsFault};
 ghost use Rattle.replay.specs.rule.Faults.{IsJournalFault, IsOldFault, IsTextFault};
 ghost use Rattle.replay.specs.rule.Stores.{SameFiles};
 ghost use Rattle.cluster_core.specs.rule.Parts.{world_state};
 
-use crate::fault::Fault;
-use crate::input::text_of;
-use crate::listing::push_history_of;
-use crate::shown::Shown;
-use crate::store::Store;
-use cluster_core::check_error::CheckError;
-use cluster_core::journal::{Journal, comes_next};
-use cluster_core::world::{JOURNAL_LIMIT, World};
+use crate::{Fault, Shown, Store, push_history_of, text_of};
+use cluster_core::{CheckError, JOURNAL_LIMIT, Journal, World, comes_next};
 use journal_text::parse::{is_old, measure, read_each, shape_of};
 use journal_text::sink::Sink;
-use messages::entry::Entry;
-use messages::shape::Shape;
-use player::watcher::Watcher;
+use messages::{Entry, Shape};
+use player::Watcher;
 use run_clients::text::clients_text;
 use std::alloc::{AllocError, Global};
 
@@ -47,7 +40,8 @@ pub(crate) fn audit<'a, S: Store, V: Watcher>(
     ensures fault { IfErr result (λ fault. (fault ≢ CannotWriteOutput)
         × IsFault (S.holds store.old) (S.ran_short store.new) (S.refuses store.new) (audit path.now) (S.holds store.new) fault) }
 {
-    match first_wrong(alloc, store, path, watcher)? {
+    let text = text_of(alloc, store, path)?;
+    match first_wrong(alloc, text.as_str(), watcher)? {
         None => Ok(Shown::Yes),
         Some(position) => Ok(Shown::No(position)),
     }
@@ -73,24 +67,9 @@ pub(crate) fn history<'a, S: Store>(
     }
 }
 
-// The position of the first entry of the journal of a file that is not the next step, if there is one.
-fn first_wrong<'a, S: Store, V: Watcher>(
-    alloc: Global,
-    store: &mut S,
-    path: &'a str,
-    watcher: &mut V,
-) -> Result<Option<u32>, Fault<'a>>
-    ensures verdict { IfOk result (λ wrong. (j : JournalFields) × HasJournal (S.holds store.old path.now) j × IsVerdict j wrong) }
-    ensures fault { IfErr result (IsJournalFault (S.holds store.old path.now) (S.ran_short store.new) path.now) }
-    ensures files { SameFiles (S.holds store.old) (S.holds store.new) }
-{
-    let text = text_of(alloc, store, path)?;
-    first_wrong_in(alloc, text.as_str(), watcher)
-}
-
-// The same of the journal that the text writes. Its entries are not kept. Where memory is short, what is wrong
-// with the text is still told first.
-fn first_wrong_in<'a, V: Watcher>(
+// The position of the first entry of the journal that the text writes that is not the next step, if there is one. Its entries are
+// not kept. Where memory is short, what is wrong with the text is still told first.
+fn first_wrong<'a, V: Watcher>(
     alloc: Global,
     text: &str,
     watcher: &mut V,
@@ -231,18 +210,10 @@ fn history_text(alloc: Global, journal: Journal, as_clients: bool) -> Result<Str
     ensures { IfOk result (λ text. IsHistoryUnless as_clients journal (string_bytes text)) }
 {
     if as_clients {
-        clients_text(alloc, journal)
-    } else {
-        history_of(alloc, &journal)
+        return clients_text(alloc, journal);
     }
-}
-
-// The history of a run as text.
-fn history_of(alloc: Global, journal: &Journal) -> Result<String, AllocError>
-    ensures { IfOk result (λ text. IsHistoryText journal.now (string_bytes text)) }
-{
     let mut text = String::new(alloc);
-    push_history_of(&mut text, alloc, journal)?;
+    push_history_of(&mut text, alloc, &journal)?;
     Ok(text)
 }
 

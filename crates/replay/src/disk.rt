@@ -3,10 +3,8 @@ ghost use Rattle.std.specs.Prelude.{◌≡◌, ◌↔◌};
 ghost use Rattle.std.specs.IoError.{error_kind};
 ghost use Rattle.replay.specs.declared.store.StoreError.TheVariants.{NoMemory};
 
-use crate::disk_draft::DiskDraft;
-use crate::file_reason::FileReason;
-use crate::store::{Store, StoreError};
-use std::alloc::Global;
+use crate::store::{FileDraft, FileReason, Store, StoreError};
+use std::alloc::{AllocError, Global};
 use std::fs::{File, Metadata, OpenFile, OpenOptions};
 use std::io::{BufWriter, Error, ErrorKind, Write};
 use std::rt::Files;
@@ -39,18 +37,15 @@ impl<R: Files + AllocGlobal> Store for Disk<'_, R> {
 
     fn read(&mut self, _alloc: Global, path: &str) -> Result<Vec<u8>, StoreError> {
         let name = if path == "-" { "/dev/stdin" } else { path };
-        fs::read(self.rt, name).map_err(|error| unread(&error))
+        fs::read(self.rt, name).map_err(|error| failure(&error, "no such file"))
     }
 
     fn begin(&mut self, path: &str) -> DiskDraft<R::File> {
-        match draft_of(self.rt, path) {
-            Ok(draft) => draft,
-            Err(error) => DiskDraft::Refused(error),
-        }
+        draft_of(self.rt, path)
     }
 
     fn commit(&mut self, path: &str, draft: DiskDraft<R::File>) -> Result<(), StoreError> {
-        put_there(self.rt, path, draft).map_err(|error| unwritten(&error))
+        put_there(self.rt, path, draft).map_err(|error| failure(&error, "no such folder"))
     }
 
     fn abandon(&mut self, draft: DiskDraft<R::File>) {
@@ -61,60 +56,51 @@ impl<R: Files + AllocGlobal> Store for Disk<'_, R> {
     }
 
     fn try_write(&mut self, path: &str) -> Result<(), StoreError> {
-        tried(self.rt, path).map_err(|error| unwritten(&error))
+        tried(self.rt, path).map_err(|error| failure(&error, "no such folder"))
     }
 }
 
-// Why a file was not read.
-fn unread(error: &Error) -> StoreError
+// Why a file was not read, or not written, where `missing` says what is missing if something is.
+fn failure(error: &Error, missing: &'static str) -> StoreError
     ensures { error_kind error.now ≡ ErrorKind.OutOfMemory ↔ result ≡ NoMemory }
 {
     match error.kind() {
         ErrorKind::OutOfMemory => StoreError::NoMemory,
-        kind => StoreError::Failed(reason_of(kind)),
+        kind => StoreError::Failed(reason_of(kind, missing)),
     }
 }
 
-// Why one was not written: where something is missing, it is its folder.
-fn unwritten(error: &Error) -> StoreError
-    ensures { error_kind error.now ≡ ErrorKind.OutOfMemory ↔ result ≡ NoMemory }
-{
-    match error.kind() {
-        ErrorKind::OutOfMemory => StoreError::NoMemory,
-        ErrorKind::NotFound => StoreError::Failed(FileReason::NoFolder),
-        kind => StoreError::Failed(reason_of(kind)),
-    }
-}
-
-fn reason_of(kind: ErrorKind) -> FileReason {
-    match kind {
-        ErrorKind::NotFound => FileReason::Missing,
-        ErrorKind::IsADirectory => FileReason::IsDirectory,
-        ErrorKind::NotADirectory => FileReason::NotADirectory,
-        ErrorKind::PermissionDenied => FileReason::NoPermission,
+fn reason_of(kind: ErrorKind, missing: &'static str) -> FileReason {
+    let words = match kind {
+        ErrorKind::NotFound => missing,
+        ErrorKind::IsADirectory => "it is a directory",
+        ErrorKind::NotADirectory => "a part of the path is no directory",
+        ErrorKind::PermissionDenied => "permission denied",
         ErrorKind::StorageFull | ErrorKind::QuotaExceeded | ErrorKind::FileTooLarge => {
-            FileReason::NoSpace
+            "no space left"
         }
-        ErrorKind::ReadOnlyFilesystem => FileReason::ReadOnlyDisk,
-        ErrorKind::InvalidFilename | ErrorKind::InvalidInput => FileReason::BadName,
-        ErrorKind::FilesystemLoop => FileReason::LinksInACircle,
-        ErrorKind::ResourceBusy | ErrorKind::ExecutableFileBusy => FileReason::InUse,
-        _ => FileReason::Refused,
-    }
+        ErrorKind::ReadOnlyFilesystem => "the disk is read-only",
+        ErrorKind::InvalidFilename | ErrorKind::InvalidInput => "no file may have this name",
+        ErrorKind::FilesystemLoop => "its links lead round in a circle",
+        ErrorKind::ResourceBusy | ErrorKind::ExecutableFileBusy => "it is in use",
+        _ => return FileReason::Refused,
+    };
+    FileReason::Told(words)
 }
 
 // A file that is to take the place of that of the path, whose permissions it gets. It is made beside it, under a name
 // of its own. Where the old one is no regular file or one that is not to be written, or none can be made beside it, it
 // is kept in memory until it is written in place.
-fn draft_of<R: Files + AllocGlobal>(rt: &R, path: &str) -> io::Result<DiskDraft<R::File>> {
+fn draft_of<R: Files + AllocGlobal>(rt: &R, path: &str) -> DiskDraft<R::File> {
     let old = match fs::symlink_metadata(rt, path) {
         Ok(found) if found.is_file() && !found.permissions().readonly() => Some(found),
         Err(error) if error.kind() == ErrorKind::NotFound => None,
-        _ => return Ok(DiskDraft::Kept(Vec::new(rt.alloc()))),
+        _ => return DiskDraft::Kept(Vec::new(rt.alloc())),
     };
-    match open_beside(rt, path)? {
-        Some((name, file)) => draft_beside(rt, old, name, file),
-        None => Ok(DiskDraft::Kept(Vec::new(rt.alloc()))),
+    match open_beside(rt, path) {
+        Ok(Some((name, file))) => draft_beside(rt, old, name, file),
+        Ok(None) => DiskDraft::Kept(Vec::new(rt.alloc())),
+        Err(error) => DiskDraft::Refused(error),
     }
 }
 
@@ -140,29 +126,22 @@ fn draft_beside<R: Files + AllocGlobal>(
     old: Option<Metadata>,
     name: String,
     file: R::File,
-) -> io::Result<DiskDraft<R::File>> {
-    match buffered(rt, old, file) {
-        Ok(file) => Ok(DiskDraft::Beside {
+) -> DiskDraft<R::File> {
+    let allowed = match old {
+        Some(old) => file.set_permissions(old.permissions()),
+        None => Ok(()),
+    };
+    match allowed.and_then(|_| BufWriter::with_capacity(rt.alloc(), AT_ONCE, file)) {
+        Ok(file) => DiskDraft::Beside {
             name,
             file,
             written: Ok(()),
-        }),
+        },
         Err(error) => {
             let _ = fs::remove_file(rt, &name);
-            Err(error)
+            DiskDraft::Refused(error)
         }
     }
-}
-
-fn buffered<R: Files + AllocGlobal>(
-    rt: &R,
-    old: Option<Metadata>,
-    file: R::File,
-) -> io::Result<BufWriter<R::File>> {
-    if let Some(old) = old {
-        file.set_permissions(old.permissions())?;
-    }
-    BufWriter::with_capacity(rt.alloc(), AT_ONCE, file)
 }
 
 // Renames the file to the path, or writes what was kept of it there. One beside goes where that fails.
@@ -185,15 +164,14 @@ fn put_there<R: Files>(rt: &R, path: &str, draft: DiskDraft<R::File>) -> io::Res
     }
 }
 
-fn sent_on<F: Write + Drop>(file: BufWriter<F>) -> io::Result<()> {
-    let mut file = file;
+fn sent_on<F: Write + Drop>(mut file: BufWriter<F>) -> io::Result<()> {
     file.flush()
 }
 
 // Whether a file could be put in the place of that of the path: by one that is made beside it, gets a block and goes
 // again, or else by what the system says of one that is written in place.
 fn tried<R: Files + AllocGlobal>(rt: &R, path: &str) -> io::Result<()> {
-    match draft_of(rt, path)? {
+    match draft_of(rt, path) {
         DiskDraft::Beside { name, file, .. } => {
             let filled = block_written(file);
             let _ = fs::remove_file(rt, &name);
@@ -204,8 +182,7 @@ fn tried<R: Files + AllocGlobal>(rt: &R, path: &str) -> io::Result<()> {
     }
 }
 
-fn block_written<F: Write + Drop>(file: F) -> io::Result<()> {
-    let mut file = file;
+fn block_written<F: Write + Drop>(mut file: F) -> io::Result<()> {
     file.write_all(&[b'\n'; BLOCK])?;
     file.flush()
 }
@@ -214,19 +191,15 @@ fn block_written<F: Write + Drop>(file: F) -> io::Result<()> {
 fn tried_in_place<R: Files>(rt: &R, path: &str) -> io::Result<()> {
     match fs::metadata(rt, path) {
         Ok(found) if found.is_dir() => Err(Error::from(ErrorKind::IsADirectory)),
-        Ok(found) if found.is_file() => opened(rt, path),
+        Ok(found) if found.is_file() => {
+            let mut how = OpenOptions::new();
+            how.write(true);
+            how.open(rt, path).map(|_| ())
+        }
         Ok(_) => Ok(()),
         Err(error) if error.kind() == ErrorKind::NotFound => made_once(rt, path),
         Err(error) => Err(error),
     }
-}
-
-// Whether the file may be written.
-fn opened<R: Files>(rt: &R, path: &str) -> io::Result<()> {
-    let mut how = OpenOptions::new();
-    how.write(true);
-    how.open(rt, path)?;
-    Ok(())
 }
 
 // Whether a file can be made where none is; it goes again. Of a link to nothing this is not tried.
@@ -239,5 +212,38 @@ fn made_once<R: Files>(rt: &R, path: &str) -> io::Result<()> {
         }
         Err(error) if error.kind() == ErrorKind::AlreadyExists => Ok(()),
         Err(error) => Err(error),
+    }
+}
+
+/// A file of the system that is made piece by piece.
+#[derive(Drop)]
+pub enum DiskDraft<F: Write + Drop> {
+    /// It is written beside the one that it is to take the place of.
+    Beside {
+        /// Its own name.
+        name: String,
+        /// The file.
+        file: BufWriter<F>,
+        /// Whether all of it could be written so far.
+        written: io::Result<()>,
+    },
+    /// It is kept in memory, to be written in place.
+    Kept(Vec<u8>),
+    /// It can't be written, for this reason.
+    Refused(Error),
+}
+
+impl<F: Write + Drop> FileDraft for DiskDraft<F> {
+    fn add(&mut self, bytes: &[u8]) -> Result<(), AllocError> {
+        match self {
+            DiskDraft::Beside { file, written, .. } => {
+                if written.is_ok() {
+                    *written = file.write_all(bytes);
+                }
+                Ok(())
+            }
+            DiskDraft::Kept(kept) => kept.extend_from_slice(bytes),
+            DiskDraft::Refused(_) => Ok(()),
+        }
     }
 }

@@ -2,15 +2,13 @@
 ghost use Rattle.std.specs.Prelude.{◌≡◌};
 ghost use Rattle.replay.specs.declared.fault.Fault.TheVariants.{NoMemory};
 ghost use Rattle.replay.specs.rule.Faults.{fault_line, fault_of_parse, fault_of_play};
-ghost use Rattle.replay.specs.rule.Outputs.{Writes};
-ghost use Rattle.replay.specs.rule.Statuses.{status_of};
+ghost use Rattle.replay.specs.rule.Stores.{Writes};
+ghost use Rattle.replay.specs.rule.Commands.{status_of};
 
-use crate::file_reason::FileReason;
-use crate::output::{Output, WriteFailed, put_line};
+use crate::{FileReason, Output, WriteFailed, put_line};
 use itoa::Buffer;
-use lockscript::error::ParseError;
-use lockscript::play_error::PlayError;
-use std::alloc::{AllocError, AllocFailed};
+use lockscript::{ParseError, PlayError};
+use std::alloc::AllocError;
 
 /// Why a command was not done.
 #[derive(Drop)]
@@ -106,14 +104,6 @@ impl From<AllocError> for Fault<'_> {
     ghost from_gives = { λ error made. made ≡ NoMemory };
 
     fn from(_error: AllocError) -> Self {
-        Fault::NoMemory
-    }
-}
-
-impl<T: Drop> From<AllocFailed<T>> for Fault<'_> {
-    ghost from_gives = { λ error made. made ≡ NoMemory };
-
-    fn from(_error: AllocFailed<T>) -> Self {
         Fault::NoMemory
     }
 }

@@ -3,9 +3,7 @@ ghost use Rattle.std.specs.Prelude.{string_bytes, IfErr, IfOk, Some};
 ghost use Rattle.replay.specs.rule.Faults.{IsTextless};
 ghost use Rattle.replay.specs.rule.Stores.{SameFiles};
 
-use crate::fault::Fault;
-use crate::file_reason::{FileReason, not_text_behind};
-use crate::store::{Store, StoreError};
+use crate::{Fault, FileReason, Store, StoreError};
 use std::alloc::Global;
 use std::string::FromUtf8Error;
 
@@ -37,4 +35,24 @@ pub fn text_of<'a, S: Store>(
 fn not_text_in(error: &FromUtf8Error<Global>) -> FileReason {
     let valid = error.utf8_error().valid_up_to();
     not_text_behind(error.as_bytes().get(..valid).unwrap_or(&[]))
+}
+
+// The place of the first byte that is no text, behind these bytes that are text.
+fn not_text_behind(front: &[u8]) -> FileReason {
+    let mut line = 1u64;
+    let mut column = 1u64;
+    for byte in front {
+        if *byte == b'\n' {
+            line = line.saturating_add(1);
+            column = 1;
+        } else if begins_character(*byte) {
+            column = column.saturating_add(1);
+        }
+    }
+    FileReason::NotText { line, column }
+}
+
+// Whether a character of UTF-8 begins with this byte, and does not go on with it.
+fn begins_character(byte: u8) -> bool {
+    byte & 0xC0 != 0x80
 }

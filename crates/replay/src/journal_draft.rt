@@ -1,26 +1,21 @@
 //! Journals that are written piece by piece.
-ghost use Rattle.std.specs.Prelude.{◌≡◌, ◌++◌, codes, option_map, Some, IfErr, OnOk};
+ghost use Rattle.std.specs.Prelude.{◌≡◌, ◌++◌, codes, option_map, Some, IfErr, OnOk, ℕ, List, Ok, IfOk};
 ghost use Rattle.journal_text.specs.rule.Journals.{end_text, entries_text, head_text, journal_text};
 ghost use Rattle.replay.specs.rule.Commands.{KeepsJournal};
-ghost use Rattle.replay.specs.rule.Faults.{IsUnkept};
-ghost use Rattle.replay.specs.rule.Stores.{Adds};
+ghost use Rattle.replay.specs.rule.Faults.{IsUnkept, IsUnwritten};
+ghost use Rattle.replay.specs.rule.Stores.{Adds, SameOthers};
 
-use crate::drafted::committed;
-use crate::fault::Fault;
-use crate::file_draft::FileDraft;
-use crate::store::Store;
-use cluster_core::journal::Journal;
+use crate::{Fault, FileDraft, FileReason, Store, StoreError};
+use cluster_core::Journal;
 use journal_text::journal::{push_end, push_entry, push_head};
-use messages::entry::Entry;
-use messages::shape::Shape;
-use messages::version::Version;
+use messages::{Entry, Shape, Version};
 use std::alloc::{AllocError, Global};
 
 /// Writes the journal of a run to a file, if one is named.
 ///
 /// # Errors
 /// `CannotWrite` where the file can't be written; `NoMemory` where a request for memory was refused.
-pub(crate) fn keep_journal<'a, S: Store>(
+pub fn keep_journal<'a, S: Store>(
     alloc: Global,
     store: &mut S,
     file: Option<&'a str>,
@@ -29,25 +24,9 @@ pub(crate) fn keep_journal<'a, S: Store>(
     ensures kept { OnOk result (KeepsJournal (S.holds store.old) (option_map (λ file. file.now) file.entry) (journal_text journal.shape journal.entries) (S.holds store.new)) }
     ensures fault { IfErr result (IsUnkept (S.holds store.old) (S.refuses store.new) (option_map (λ file. file.now) file.entry) (S.holds store.new)) }
 {
-    match file {
-        None => Ok(()),
-        Some(file) => write_journal(alloc, store, file, journal),
-    }
-}
-
-/// Writes the journal of a run to this file.
-///
-/// # Errors
-/// The same.
-pub fn write_journal<'a, S: Store>(
-    alloc: Global,
-    store: &mut S,
-    file: &'a str,
-    journal: Journal,
-) -> Result<(), Fault<'a>>
-    ensures kept { OnOk result (KeepsJournal (S.holds store.old) (Some file.now) (journal_text journal.shape journal.entries) (S.holds store.new)) }
-    ensures fault { IfErr result (IsUnkept (S.holds store.old) (S.refuses store.new) (Some file.now) (S.holds store.new)) }
-{
+    let Some(file) = file else {
+        return Ok(());
+    };
     let mut draft = store.begin(file);
     let made = add_journal(&mut draft, alloc, journal);
     committed(store, file, draft, made)?;
@@ -108,4 +87,30 @@ fn add_end<D: FileDraft>(draft: &mut D, alloc: Global, count: usize) -> Result<(
     let mut line = String::new(alloc);
     push_end(&mut line, count)?;
     draft.add(line.as_bytes())
+}
+
+/// What was made beside a draft, which takes the place of the file. Where memory was short for it, the draft is given up.
+///
+/// # Errors
+/// `CannotWrite` where the file can't be written; `NoMemory` where memory was short for what was made.
+pub fn committed<'a, S: Store, T: Drop>(
+    store: &mut S,
+    file: &'a str,
+    draft: S::Draft,
+    made: Result<T, AllocError>,
+) -> Result<T, Fault<'a>>
+    ensures made { IfOk result (λ value. made ≡ Ok value) }
+    ensures written { OnOk result ((text : List ℕ) → S.Draft.has draft file.now text → S.holds store.new file.now (Some text)) }
+    ensures fault { IfErr result (IsUnwritten (S.holds store.old) (S.refuses store.new) file.now (S.holds store.new)) }
+    ensures others { SameOthers (S.holds store.old) (S.holds store.new) file.now }
+{
+    let Ok(value) = made else {
+        store.abandon(draft);
+        return Err(Fault::NoMemory);
+    };
+    match store.commit(file, draft) {
+        Ok(()) => Ok(value),
+        Err(StoreError::NoMemory) => Err(Fault::CannotWrite(file, FileReason::NoMemory)),
+        Err(StoreError::Failed(reason)) => Err(Fault::CannotWrite(file, reason)),
+    }
 }

@@ -1,19 +1,15 @@
 //! Histories of clients, judged.
 ghost use Rattle.std.specs.Prelude.{◌≡◌, map, option_map, Some, IfErr, IfOk};
-ghost use Rattle.command_line.specs.rule.JudgeTasks.{judge_task_of};
+ghost use Rattle.command_line.specs.rule.Tasks.{judge_task_of};
 ghost use Rattle.replay.specs.rule.Judging.{AreJudged, IsJudgedWith, IsSaidIn, IsSaidOf, allowed_of, shown_of};
 ghost use Rattle.replay.specs.rule.Stores.{SameFiles};
-ghost use Rattle.replay.specs.rule.ToolFaults.{IsReportOf, IsToolFault};
+ghost use Rattle.replay.specs.rule.Faults.{IsReportOf, IsToolFault};
 
-use crate::fault::Fault;
-use crate::input::text_of;
-use crate::shown::Shown;
-use crate::store::Store;
-use command_line::allowed_rule::AllowedRule;
-use command_line::judge_line::JudgeLine;
-use history_text::rule::Allowed;
-use judgements::judgement::{Judgement, judge_history, judge_orders};
-use judgements::judging::{JudgeError, JudgementOutcome, Judging};
+use crate::{Fault, Shown, Store, text_of};
+use command_line::judge_line::{AllowedRule, JudgeLine};
+use history_text::{
+    Allowed, JudgeError, Judgement, JudgementOutcome, Judging, judge_history, judge_orders,
+};
 use std::alloc::{AllocError, Global};
 use std::fmt::Write;
 

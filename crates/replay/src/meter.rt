@@ -1,8 +1,9 @@
 //! How far long work is, on a terminal.
-use player::watcher::Watcher;
+
+use player::Watcher;
 use std::io::Write;
 use std::time::{Clock, Duration, Instant};
-use thread_runs::run_watcher::RunWatcher;
+use thread_runs::RunWatcher;
 
 // How many seconds it takes until a line is shown, and then until the next one is.
 const SECONDS_BETWEEN_LINES: u64 = 1;

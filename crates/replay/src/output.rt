@@ -1,7 +1,7 @@
 //! Where texts are written.
 ghost use Rattle.std.specs.Prelude.{◌++◌, ◌≤◌, ⊤, ℕ, List, Option, None, codes, length, take, IfOk, OnErr, OnOk};
 ghost use Rattle.std.specs.Io.KnownBytes.{Appends, Keeps};
-ghost use Rattle.replay.specs.rule.Outputs.{AppendsPart, Writes};
+ghost use Rattle.replay.specs.rule.Stores.{AppendsPart, Writes};
 
 use std::io::{ErrorKind, Write};
 use thiserror::Error;
@@ -90,7 +90,7 @@ pub(crate) fn put_line<O: Output>(out: &mut O, start: &str, end: &str) -> Result
 ///
 /// # Errors
 /// Where the writer fails, which took a beginning of the text.
-pub(crate) fn put_all<O: Output>(out: &mut O, text: &str) -> Result<(), WriteFailed>
+pub fn put_all<O: Output>(out: &mut O, text: &str) -> Result<(), WriteFailed>
     ensures shown { OnOk result (Appends (O.taken out.old) (O.taken out.new) text.now) }
     ensures flushed { OnOk result (O.is_flushed out.new) }
     ensures part { OnErr result (AppendsPart (O.taken out.old) (O.taken out.new) text.now × O.has_failed out.new) }

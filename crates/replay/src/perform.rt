@@ -1,32 +1,23 @@
 //! Doing what a command line asks for.
 ghost use Rattle.std.specs.Prelude.{◌≡◌, ◌≢◌, ◌≤◌, ◌<◌, false, IfErr, IfOk, OnOk};
 ghost use Rattle.std.specs.Io.KnownBytes.{Appends};
-ghost use Rattle.command_line.specs.rule.Tasks.{journal_path, task_of, run_task_of, threads_task_of};
-ghost use Rattle.replay.specs.rule.Commands.{Does, IsFault, Leaves, MayNotKnow, SameBut, Shows, TellsFault, says_why};
+ghost use Rattle.command_line.specs.rule.Tasks.{journal_path, task_of, run_task_of};
+ghost use Rattle.replay.specs.rule.Commands.{Does, IsFault, Leaves, MayNotKnow, SameBut, Shows, TellsFault, says_why, status_of, IsStatus};
 ghost use Rattle.replay.specs.rule.Faults.{fault_line};
-ghost use Rattle.replay.specs.rule.Outputs.{WritesOrFails};
-ghost use Rattle.replay.specs.rule.Showing.{TellsBeside, shown_text};
-ghost use Rattle.replay.specs.rule.Statuses.{status_of, IsStatus};
+ghost use Rattle.replay.specs.rule.Stores.{WritesOrFails, TellsBeside, shown_text};
 ghost use Rattle.replay.specs.declared.fault.Fault.TheVariants.{CannotWriteOutput};
 
 use crate::audit::{audit, history};
-use crate::fault::Fault;
 use crate::judge::judge;
-use crate::output::Output;
-use crate::run::{ListingOptions, run_alone, run_behind};
-use crate::shown::Shown;
 use crate::state::state;
-use crate::store::Store;
-use crate::threads::play_on_threads;
-use command_line::command_line::CommandLine;
-use command_line::run_line::{RunLine, ThreadsLine};
-use player::watcher::Watcher;
+use crate::{Fault, Output, Shown, Store, play_on_threads, run_alone, run_behind};
+use command_line::command_line::{CommandLine, RunLine};
+use player::Watcher;
 use std::alloc::Global;
 use std::sync::Wait;
 use std::thread::Threads;
 use std::time::Clock;
-use thread_runs::manner::Manner;
-use thread_runs::run_watcher::RunWatcher;
+use thread_runs::RunWatcher;
 
 /// Does what the line asks for, and answers the exit status. It is 0 where all was done, 1 where something is wrong or
 /// left out (see below), 3 where the input or the output is at fault, 4 where memory or the journal was too small, 5 where
@@ -167,7 +158,7 @@ pub(crate) fn shown_of<'a, R: Threads + Wait + Clock + Sync, S: Store, V: Watche
 {
     match *line {
         CommandLine::Run(asked) => run_shown(alloc, store, asked, watcher),
-        CommandLine::Threads(asked) => threads_shown(rt, alloc, store, asked, watcher),
+        CommandLine::Threads(asked) => play_on_threads(rt, alloc, store, asked, watcher),
         CommandLine::Audit { journal } => audit(alloc, store, journal, watcher),
         CommandLine::History {
             journal,
@@ -190,36 +181,8 @@ fn run_shown<'a, S: Store, V: Watcher>(
     ensures fault { IfErr result (λ fault. (fault ≢ CannotWriteOutput)
         × IsFault (S.holds store.old) (S.ran_short store.new) (S.refuses store.new) (run_task_of asked.entry) (S.holds store.new) fault) }
 {
-    let wanted = ListingOptions {
-        expect: asked.expect,
-        quiet: asked.quiet,
-        calm: asked.calm,
-    };
-    let (script, journal) = (asked.script, asked.journal);
     match asked.after {
-        None => run_alone(alloc, store, script, journal, wanted, watcher),
-        Some(after) => run_behind(alloc, store, script, after, journal, wanted, watcher),
+        None => run_alone(alloc, store, asked, watcher),
+        Some(after) => run_behind(alloc, store, asked, after, watcher),
     }
-}
-
-// What is shown of a script that is run on threads.
-fn threads_shown<'a, R: Threads + Wait + Clock + Sync, S: Store, V: Watcher + RunWatcher>(
-    rt: &R,
-    alloc: Global,
-    store: &mut S,
-    asked: ThreadsLine<'a>,
-    watcher: &mut V,
-) -> Result<Shown, Fault<'a>>
-    ensures done { IfOk result (Does (S.holds store.old) (threads_task_of asked.entry) (S.holds store.new)) }
-    ensures fault { IfErr result (λ fault. (fault ≢ CannotWriteOutput)
-        × IsFault (S.holds store.old) (S.ran_short store.new) (S.refuses store.new) (threads_task_of asked.entry) (S.holds store.new) fault) }
-{
-    let manner = Manner {
-        no_join: asked.no_join,
-        may_stop: asked.stop_when_stuck,
-    };
-    let (script, journal) = (asked.script, asked.journal);
-    play_on_threads(
-        rt, alloc, store, script, asked.seed, manner, journal, watcher,
-    )
 }

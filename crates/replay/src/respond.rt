@@ -1,29 +1,28 @@
 //! The program as a function of its words.
-ghost use Rattle.std.specs.Prelude.{◌≡◌, ◌≢◌, ◌≤◌, ◌<◌, ◌↔◌, ◌⊎◌, ℕ, false, List, Option, Some, map};
+ghost use Rattle.std.specs.Prelude.{◌≡◌, ◌≢◌, ◌≤◌, ◌<◌, ◌↔◌, ◌⊎◌, ℕ, false, List, Option, Some, map, IfErr};
 ghost use Rattle.std.specs.Io.KnownBytes.{Appends};
 ghost use Rattle.command_line.specs.rule.Tasks.{journal_path, Task};
 ghost use Rattle.command_line.specs.rule.Words.{AreWrong, AsksFor, AsksForHelp};
 ghost use Rattle.replay.specs.declared.fault.Fault.TheVariants.{CannotWriteOutput, NoMemory};
-ghost use Rattle.replay.specs.rule.Commands.{Does, IsFaultOrShort, Leaves, MayNotKnow, Shows, TellsFault, says_why};
+ghost use Rattle.replay.specs.rule.Commands.{Does, IsFaultOrShort, Leaves, MayNotKnow, Shows, TellsFault, says_why, IsHelp, refusal_status, refusal_text, AreUnread, IsStatus};
 ghost use Rattle.replay.specs.rule.Faults.{fault_line};
-ghost use Rattle.replay.specs.rule.Outputs.{AppendsPart, WritesOrFails};
-ghost use Rattle.replay.specs.rule.Showing.{TellsBeside};
-ghost use Rattle.replay.specs.rule.Refusals.{IsHelp, refusal_status, refusal_text};
-ghost use Rattle.replay.specs.rule.Statuses.{IsStatus};
+ghost use Rattle.replay.specs.rule.Stores.{AppendsPart, WritesOrFails, TellsBeside};
+ghost use Rattle.std.specs.IoError.{error_kind};
 
-use crate::fault::Fault;
-use crate::output::{Output, put_all, put_line};
 use crate::perform::{perform, report};
-use crate::store::Store;
+use crate::{Fault, Output, Store, put_all, put_line};
 use command_line::command_line::CommandLine;
 use command_line::refusal::Refusal;
-use player::watcher::Watcher;
+use player::Watcher;
 use std::alloc::Global;
 use std::convert::AsStr;
+use std::env;
+use std::io::{Error, ErrorKind};
+use std::rt::Env;
 use std::sync::Wait;
 use std::thread::Threads;
 use std::time::Clock;
-use thread_runs::run_watcher::RunWatcher;
+use thread_runs::RunWatcher;
 
 /// Does what the words ask for, the first of them being the program's name, and answers the exit
 /// status: that of `perform`; 0 where they ask for help or for the version, which the first writer
@@ -110,5 +109,28 @@ pub fn refuse<O: Output, E: Output>(refusal: &Refusal, out: &mut O, err: &mut E)
             2
         }
         Refusal::NoMemory => report(&Fault::NoMemory, err),
+    }
+}
+
+/// The words of the command line, the first of them being the program's name.
+///
+/// # Errors
+/// `NotText` where one of them is not UTF-8; `NoMemory` where a request for memory was refused.
+pub fn read_words<R: Env + AllocGlobal>(rt: &R) -> Result<Vec<String>, Refusal>
+    ensures { IfErr result AreUnread }
+{
+    let words = env::args(rt).map_err(|error| refusal_of(&error))?;
+    words.collect(rt.alloc()).map_err(|_| Refusal::NoMemory)
+}
+
+// Words are read but for memory, or for one that is not UTF-8.
+fn refusal_of(error: &Error) -> Refusal
+    ensures unread { AreUnread result }
+    ensures memory { error_kind error.now ≡ ErrorKind.OutOfMemory → result ≡ Refusal.NoMemory }
+    ensures text { error_kind error.now ≢ ErrorKind.OutOfMemory → result ≡ Refusal.NotText }
+{
+    match error.kind() {
+        ErrorKind::OutOfMemory => Refusal::NoMemory,
+        _ => Refusal::NotText,
     }
 }

@@ -1,8 +1,7 @@
 //! What is shown of a command that is done.
 ghost use Rattle.std.specs.Prelude.{◌≡◌, OnErr, OnOk};
 ghost use Rattle.std.specs.Io.KnownBytes.{Appends};
-ghost use Rattle.replay.specs.rule.Outputs.{AppendsPart, Writes};
-ghost use Rattle.replay.specs.rule.Showing.{TellsBeside, shown_status, shown_text};
+ghost use Rattle.replay.specs.rule.Stores.{AppendsPart, Writes, TellsBeside, shown_status, shown_text};
 
 use crate::output::{Output, WriteFailed, put_line};
 use itoa::Buffer;

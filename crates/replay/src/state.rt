@@ -2,21 +2,16 @@
 ghost use Rattle.std.specs.Prelude.{◌≡◌, ◌≢◌, ◌≤◌, false, true, length, string_bytes, IfErr, IfOk, ◌<◌, Ok, take, OnOk};
 ghost use Rattle.command_line.specs.rule.Tasks.{state};
 ghost use Rattle.replay.specs.declared.fault.Fault.TheVariants.{CannotWriteOutput};
-ghost use Rattle.replay.specs.rule.Commands.{Does, IsFault};
-ghost use Rattle.replay.specs.rule.Tellings.{lack_text, position_of, HasEntry, IsStateBehind, IsStateTold, TellsState};
+ghost use Rattle.replay.specs.rule.Commands.{Does, IsFault, lack_text, position_of, HasEntry, IsStateBehind, IsStateTold, TellsState};
 ghost use Rattle.cluster_core.specs.rule.Next.{next};
 ghost use Rattle.cluster_core.specs.rule.Parts.{world_state};
 ghost use Rattle.cluster_core.specs.rule.Runs.{Leads};
 ghost use Rattle.cluster_core.specs.rule.World.{first_world, journal_limit, WorldState};
 
-use crate::audit::{Audited, checked};
-use crate::fault::Fault;
-use crate::shown::Shown;
-use crate::store::Store;
-use cluster_core::journal::{Journal, comes_next};
-use cluster_core::world::World;
-use messages::entry::Entry;
-use states::cluster_state::ClusterState;
+use crate::{Audited, Fault, Shown, Store, checked};
+use cluster_core::{Journal, World, comes_next};
+use messages::Entry;
+use states::ClusterState;
 use states::state_text::state_text;
 use std::alloc::{AllocError, Global};
 use std::fmt::Write;

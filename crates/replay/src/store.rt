@@ -1,12 +1,10 @@
 //! Files.
 ghost use Rattle.std.specs.Prelude.{◌≡◌, ℕ, List, [], ⊤, IfOk, OnErr, OnOk, Option, Result, Err, None, Some};
-ghost use Rattle.replay.specs.rule.Stores.{SameFiles, SameOthers};
-ghost use Rattle.replay.specs.declared.file_reason.FileReason.{FileReason};
+ghost use Rattle.replay.specs.rule.Stores.{SameFiles, SameOthers, Adds};
+ghost use Rattle.replay.specs.declared.store.FileReason.{FileReason};
 ghost use Rattle.replay.specs.declared.store.StoreError.TheVariants.{Failed, NoMemory};
 
-use crate::file_draft::FileDraft;
-use crate::file_reason::FileReason;
-use std::alloc::Global;
+use std::alloc::{AllocError, Global};
 
 /// Why a file was not read, or not written.
 #[derive(Clone, Copy)]
@@ -76,4 +74,42 @@ pub trait Store {
 
         // No file changes.
         ensures files { SameFiles (holds self.old) (holds self.new) };
+}
+
+/// What a file is to have, made piece by piece. No file changes by it.
+pub trait FileDraft {
+    // It is for the file of this path, and has these bytes, where that is known.
+    ghost has: { Self → List ℕ → List ℕ → Type 0 } = { λ _ _ _. ⊤ };
+
+    /// Takes bytes behind those that it has. That they can't be written is told by `Store::commit`, and not here.
+    ///
+    /// # Errors
+    /// `AllocError` where a request for memory was refused.
+    fn add(&mut self, bytes: &[u8]) -> Result<(), AllocError>
+        ensures { OnOk result (Adds (has self.old) (has self.new) bytes.now) };
+}
+
+/// Why a file was not read, or not written.
+#[derive(Clone, Copy)]
+pub enum FileReason {
+    /// The system says why, in these words.
+    Told(&'static str),
+    /// Its bytes are not UTF-8: the place of the first one that is none, each from 1, the column in characters.
+    NotText { line: u64, column: u64 },
+    /// There was no memory for it.
+    NoMemory,
+    /// The system refused it for another reason.
+    Refused,
+}
+
+impl FileReason {
+    /// Its words, up to the numbers in it.
+    pub(crate) fn words(self) -> &'static str {
+        match self {
+            FileReason::Told(words) => words,
+            FileReason::NotText { .. } => "not UTF-8 at line ",
+            FileReason::NoMemory => "no memory",
+            FileReason::Refused => "the system refuses it",
+        }
+    }
 }

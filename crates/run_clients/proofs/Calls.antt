@@ -1,42 +1,130 @@
--- Calls of processes: their deeds lead from the locks before to those after, and no lock outlives its descriptors.
-use Rattle.std.proofs.Common.{◌≡◌, ℕ, ◌<◌, Bool, true, false, if◌then◌else◌, ◌&&◌, ◌==◌, inl, inr, refl, sym, ◌∙◌, ap, subst, arith, ℤ, nat_le, nat_lt, Option, Some, None, Result, Ok, Err}
-use Rattle.std.proofs.lemmas.Bool.{and_parts, and_from, eqb-true, eq-eqb, cases_Bool, both_ways}
+-- Calls of processes: their deeds lead from the locks before to those after.
+use Rattle.std.proofs.Common.{◌≡◌, ℕ, ◌+◌, ◌<◌, ◌≤◌, Bool, true, false, ◌||◌, refl, sym, ◌∙◌, ap, arith, Option, Some, None, if◌then◌else◌, subst, nat_le, Result, Ok, Err, ◌&&◌, ◌==◌, inl, inr, ℤ, nat_lt}
+use Rattle.std.proofs.lemmas.Bool.{both_ways, and_parts, and_from, eqb-true, eq-eqb, cases_Bool}
+use Rattle.intervals.specs.rule.Search.{some_passes}
+use Rattle.model.specs.declared.opened.Opened.{Opened}
+use Rattle.model.specs.declared.process.Process.{Process}
+use Rattle.model.specs.rule.Limits.{most_processes, most_descriptors, IsHost, IsNumber}
+use Rattle.model.specs.rule.Descriptors.{Processes, is_of, is_open, no_processes, with_process, with_descriptor, lowest_fd, lowest_description, on_lowest_fd, again_on, after, after_spawn, after_fork, after_open, after_dup}
+use Rattle.model.specs.rule.Table.{Table, around, descriptor, is_running, LockTarget, locked, regions_with, after_unlock, beside, with_processes, target, need_of, call_target, target_at, owner_of, closed_at, exited}
+use Rattle.model.proofs.DescriptorLaws.{none_refers, lowest_fd-free}
+use Rattle.model.proofs.SearchLaws.{some_passes-found}
+use Rattle.descriptors.proofs.RowLaws.{some_passes-zero, some_passes-more}
+use Rattle.run_clients.specs.code.Times.{has_description, AreAnchored}
+use Rattle.model.specs.declared.lock_info.LockInfo.{LockInfo}
+use Rattle.model.specs.declared.mode.Mode.{Mode}
+use Rattle.model.specs.declared.op.LockCommand.{LockCommand}
+use Rattle.model.specs.declared.op.LockCommand.TheVariants.{Set, Wait, Query}
+use Rattle.model.specs.declared.reply.Reply.{Reply}
+use Rattle.model.specs.declared.reply.Reply.TheVariants.{Done, Again, NoLocks, Free, Blocked, Interrupted, Fd, NoProcess, Exists, TooManyFiles}
+use Rattle.model.specs.rule.Locks.{Blocks, with_lock, no_locks}
+use Rattle.model.specs.rule.Step.{Is, Unblocked, AfterTests, SetStep, WaitStep, QueryStep, LockStep, Step}
+use Rattle.client_history.specs.rule.Explained.{IsBlocked}
+use Rattle.run_clients.specs.rule.Seen.{DeedsLead, listed, locking, unlocking, asking, commanding, call_deeds, closing, exit_deeds}
 use Rattle.std.proofs.lemmas.Bool.Decides.{nat_tests}
 use Rattle.std.proofs.lemmas.Option.{none-some}
 use Rattle.intervals.specs.rule.Segment.{seg}
-use Rattle.model.specs.declared.mode.Mode.{Mode}
 use Rattle.model.specs.declared.owner.Kind.{Kind}
 use Rattle.model.specs.declared.owner.Kind.TheVariants.{OfProcess, OfDescription}
 use Rattle.model.specs.declared.owner.Owner.{Owner}
 use Rattle.model.specs.declared.access.Access.{Access}
-use Rattle.model.specs.declared.opened.Opened.{Opened}
-use Rattle.model.specs.declared.process.Process.{Process}
 use Rattle.model.specs.declared.op.Op.{Op}
 use Rattle.model.specs.declared.op.Op.TheVariants as op
 use Rattle.model.specs.declared.op.ProcessCall.{ProcessCall}
 use Rattle.model.specs.declared.op.ProcessCall.TheVariants.{Spawn, Fork, Open, Dup}
-use Rattle.model.specs.declared.op.LockCommand.{LockCommand}
-use Rattle.model.specs.declared.op.LockCommand.TheVariants.{Set, Wait, Query}
-use Rattle.model.specs.declared.reply.Reply.{Reply}
-use Rattle.model.specs.declared.reply.Reply.TheVariants.{Done, Fd, Again, NoLocks, Free, Blocked, Interrupted, NoProcess, Exists, TooManyFiles}
-use Rattle.model.specs.rule.Limits.{IsHost, IsNumber, most_processes, most_descriptors}
 use Rattle.model.specs.rule.Owners.{same_owner}
-use Rattle.model.specs.rule.Locks.{no_locks}
-use Rattle.model.specs.rule.Descriptors.{Processes, no_processes, with_process, with_descriptor, lowest_fd, lowest_description, on_lowest_fd, again_on, after, after_spawn, after_fork, after_open, after_dup}
-use Rattle.model.specs.rule.Table.{Table, LockTarget, around, beside, descriptor, is_running, with_processes, target, need_of, call_target, target_at, owner_of, locked, regions_with, after_unlock, closed_at, exited}
-use Rattle.model.specs.rule.Step.{Is, AfterTests, SetStep, WaitStep, QueryStep, LockStep, Step}
 use Rattle.model.specs.rule.Anchors.{Hangs, AreAnchored as AreAnchoredOn, IsAnchored, IsOwn}
 use Rattle.model.proofs.OwnerLaws.{owner_exact}
-use Rattle.model.proofs.DescriptorLaws.{lowest_fd-free}
 use Rattle.model.proofs.Hanging.{hangs_on, itself, target_hangs}
 use Rattle.model.proofs.NodeTables.{call_follows}
 use Rattle.model.proofs.Refusals.{if_then}
 use Rattle.model.proofs.Targets.{passes_at}
-use Rattle.run_clients.specs.code.Anchored.{AreAnchored}
-use Rattle.run_clients.specs.rule.Deeds.{DeedsLead, call_deeds, closing, exit_deeds}
-use Rattle.run_clients.proofs.Drops.{close_leads, exit_leads}
-use Rattle.run_clients.proofs.Kept.{step_keeps, closed_keeps, exit_keeps}
-use Rattle.run_clients.proofs.LockDeeds.{same_locks, sets, lock_tested, unlock_tested}
+use Rattle.run_clients.proofs.Drops.{close_leads, exit_leads, step_keeps, closed_keeps, exit_keeps}
+
+-- a process that doesn't run has no descriptor
+pub idle_has_none : (t : Table) (p : Process) (d : ℕ) → ((fd : ℕ) (o : Opened) → descriptor t p fd ≡ Some o → is_running t p ≡ true) → is_running t p ≡ false → false ≡ has_description (around t p) d p.pid
+idle_has_none t p d runs idle = sym (none_refers (λ fd. descriptor t p fd) d most_descriptors (λ fd. none fd (descriptor t p fd) refl))
+  where
+    none : (fd : ℕ) (x : Option Opened) → descriptor t p fd ≡ x → descriptor t p fd ≡ None
+    none fd None is = is
+    none fd (Some o) is = absurd (both_ways (is_running t p) idle (runs fd o is))
+
+pub none_yet : (passes : ℕ → Bool) (lo : ℕ) → some_passes passes lo 0 ≡ false
+none_yet passes lo = some_passes-zero passes lo
+
+pub none_more : (passes : ℕ → Bool) (lo n i : ℕ) → i ≡ lo + n → some_passes passes lo n ≡ false → passes i ≡ false → some_passes passes lo (n + 1) ≡ false
+none_more passes lo n i is none here = some_passes-more passes lo n ∙ (ap (λ (b : Bool). b || passes (lo + n)) none ∙ (ap passes (sym is) ∙ here))
+
+pub has_found : (ps : Processes) (d pid fd : ℕ) → fd < most_descriptors → is_of d (ps.opened pid fd) ≡ true → true ≡ has_description ps d pid
+has_found ps d pid fd below hit = sym (some_passes-found (λ k. is_of d (ps.opened pid k)) 0 most_descriptors fd (omega arith) (omega arith) hit)
+
+pub open_found : (ps : Processes) (d pid : ℕ) → 1 ≤ pid → pid ≤ most_processes → has_description ps d pid ≡ true → true ≡ is_open ps d
+open_found ps d pid first below hit = sym (some_passes-found (has_description ps d) 1 most_processes pid first (omega arith) hit)
+
+-- a call that leaves the table leaves the locks
+pub same_locks : (t u : Table) → u ≡ t → t.locks ≡ u.locks
+same_locks t u same = ap (λ (x : Table). x.locks) (sym same)
+
+-- the answer of a call that sets bytes, or is refused for want of regions
+abbrev pub sets : Table → LockTarget → Option Mode → Bool → Table × Reply
+sets t c mode b = if b then (locked t c mode, Done) else (t, NoLocks)
+
+pub done_sets : (t u : Table) (c : LockTarget) (mode : Option Mode) (b : Bool) → Is (sets t c mode b) Done u → u ≡ locked t c mode
+done_sets t u c mode true h = h.1
+done_sets t u c mode false h = absurd (let e = h.0 in cc)
+
+pub refused_sets : (t u : Table) (c : LockTarget) (mode : Option Mode) (b : Bool) → Is (sets t c mode b) NoLocks u → u ≡ t
+refused_sets t u c mode true h = absurd (let e = h.0 in cc)
+refused_sets t u c mode false h = h.1
+
+-- a lock that is named blocks, and all that is told applies to it
+is_told : (t : Table) (c : LockTarget) (mode : Mode) (lock : LockInfo) → Blocks (t.locks c.file) c.owner c.span mode lock → IsBlocked t.locks c.file c.owner c.span mode (record { mode = Some lock.mode; span = Some lock.span; owner = Some lock.owner })
+is_told t c mode lock blocks = record { lock = lock; blocks = blocks; named = record { mode = refl; span = refl; owner = refl } }
+
+granted : (t u : Table) (c : LockTarget) (mode : Mode) → Unblocked t c mode → u ≡ locked t c (Some mode) → DeedsLead t.locks (listed (locking mode Done (Ok c))) u.locks
+granted t u c mode free is = (with_lock t.locks c.file c.owner c.span (Some mode), (free, refl), ap (λ (x : Table). x.locks) (sym is))
+
+set_leads : (t u : Table) (mode : Mode) (reply : Reply) (c : LockTarget) → SetStep t mode reply u c → DeedsLead t.locks (listed (locking mode reply (Ok c))) u.locks
+set_leads t u mode (Again lock) c h = (t.locks, (is_told t c mode lock h.0, refl), same_locks t u h.1)
+set_leads t u mode Done c h = granted t u c mode h.0 (done_sets t u c (Some mode) (nat_le (regions_with t c (Some mode)) t.limit) h.1)
+set_leads t u mode NoLocks c h = same_locks t u (refused_sets t u c (Some mode) (nat_le (regions_with t c (Some mode)) t.limit) h.1)
+set_leads t u mode _ c h = absurd h
+
+wait_leads : (t u : Table) (mode : Mode) (reply : Reply) (c : LockTarget) → WaitStep t mode reply u c → DeedsLead t.locks (listed (locking mode reply (Ok c))) u.locks
+wait_leads t u mode Interrupted c h = same_locks t u h
+wait_leads t u mode Done c h = granted t u c mode h.0 (done_sets t u c (Some mode) (nat_le (regions_with t c (Some mode)) t.limit) h.1)
+wait_leads t u mode NoLocks c h = same_locks t u (refused_sets t u c (Some mode) (nat_le (regions_with t c (Some mode)) t.limit) h.1)
+wait_leads t u mode _ c h = absurd h
+
+query_leads : (t u : Table) (mode : Mode) (reply : Reply) (c : LockTarget) → QueryStep t mode reply u c → DeedsLead t.locks (listed (asking mode reply (Ok c))) u.locks
+query_leads t u mode (Blocked lock) c h = (t.locks, (is_told t c mode lock h.0, refl), same_locks t u h.1)
+query_leads t u mode Free c h = (t.locks, (h.0, refl), same_locks t u h.1)
+query_leads t u mode _ c h = absurd h
+
+freed : (t u : Table) (c : LockTarget) (reply : Reply) (b : Bool) → Is (sets t c None b) reply u → DeedsLead t.locks (listed (unlocking reply (Ok c))) u.locks
+freed t u c reply true h = subst (λ (r : Reply). DeedsLead t.locks (listed (unlocking r (Ok c))) u.locks) (sym h.0) (with_lock t.locks c.file c.owner c.span None, refl, ap (λ (x : Table). x.locks) (sym h.1))
+freed t u c reply false h = subst (λ (r : Reply). DeedsLead t.locks (listed (unlocking r (Ok c))) u.locks) (sym h.0) (same_locks t u h.1)
+
+set_tested : (t u : Table) (mode : Mode) (reply : Reply) (found : Result LockTarget Reply) → AfterTests t found reply u (SetStep t mode reply u) → DeedsLead t.locks (listed (locking mode reply found)) u.locks
+set_tested t u mode reply (Err refusal) h = same_locks t u h.1
+set_tested t u mode reply (Ok c) h = set_leads t u mode reply c h
+
+wait_tested : (t u : Table) (mode : Mode) (reply : Reply) (found : Result LockTarget Reply) → AfterTests t found reply u (WaitStep t mode reply u) → DeedsLead t.locks (listed (locking mode reply found)) u.locks
+wait_tested t u mode reply (Err refusal) h = same_locks t u h.1
+wait_tested t u mode reply (Ok c) h = wait_leads t u mode reply c h
+
+query_tested : (t u : Table) (mode : Mode) (reply : Reply) (found : Result LockTarget Reply) → AfterTests t found reply u (QueryStep t mode reply u) → DeedsLead t.locks (listed (asking mode reply found)) u.locks
+query_tested t u mode reply (Err refusal) h = same_locks t u h.1
+query_tested t u mode reply (Ok c) h = query_leads t u mode reply c h
+
+pub lock_tested : (t u : Table) (command : LockCommand) (mode : Mode) (reply : Reply) (found : Result LockTarget Reply) → AfterTests t found reply u (LockStep t command mode reply u) → DeedsLead t.locks (listed (commanding command mode reply found)) u.locks
+lock_tested t u Set mode reply found h = set_tested t u mode reply found h
+lock_tested t u Wait mode reply found h = wait_tested t u mode reply found h
+lock_tested t u Query mode reply found h = query_tested t u mode reply found h
+
+pub unlock_tested : (t u : Table) (reply : Reply) (found : Result LockTarget Reply) → Is (after_unlock t found) reply u → DeedsLead t.locks (listed (unlocking reply found)) u.locks
+unlock_tested t u reply (Err refusal) h = same_locks t u h.1
+unlock_tested t u reply (Ok c) h = freed t u c reply (nat_le (regions_with t c None) t.limit) h
 
 -- calls about processes and descriptors leave the locks
 beside_same : (t u : Table) (p : Process) (r : Result (Processes × Reply) Reply) (reply : Reply) → Is (beside t p r) reply u → t.locks ≡ u.locks

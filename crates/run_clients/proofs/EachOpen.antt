@@ -1,29 +1,108 @@
--- Each run has the list of its open calls.
-use Rattle.std.proofs.Common.{◌≡◌, ℕ, zero, suc, ◌+◌, ◌<◌, ◌≤◌, ◌==◌, ◌&&◌, ◌⊎◌, Bool, true, false, if◌then◌else◌, inl, inr, refl, sym, ◌∙◌, ap, subst, arith, List, [], ◌∷◌, ◌++◌, length, slice_get, Option, Some, None, eq-eqb}
+-- Each run has the list of its open calls, and is explained with each of them.
+use Rattle.std.proofs.Common.{◌≡◌, ℕ, Bool, true, false, if◌then◌else◌, refl, ◌∙◌, Option, Some, None, ◌+◌, ◌<◌, ◌≤◌, sym, ap, subst, List, [], ◌∷◌, ◌++◌, append-nil, append_assoc, length, drop, get_or, drop-cons, add-one, zero, suc, ◌==◌, ◌&&◌, ◌⊎◌, inl, inr, arith, slice_get, eq-eqb}
+use Rattle.model.specs.declared.opened.Opened.{Opened}
+use Rattle.model.specs.declared.process.Process.{Process}
+use Rattle.model.specs.declared.reply.Reply.{Reply}
+use Rattle.model.specs.declared.reply.Reply.TheVariants.{Done, NoProcess}
+use Rattle.model.specs.rule.Table.{Table, descriptor, is_running, closed_at, closed_if, after_close, exited, after_exit, empty_table}
+use Rattle.model.specs.rule.Step.{Is}
+use Rattle.std.specs.Prelude.{map}
+use Rattle.std.proofs.lemmas.List.{drop_all}
+use Rattle.messages.specs.declared.version.Version.{Version}
+use Rattle.messages.specs.declared.entry.Entry.{Entry}
+use Rattle.cluster_core.specs.declared.item.Item.{Item}
+use Rattle.cluster_core.specs.rule.Histories.{ItemStep, IsLegal, caller, EntryAt, IsCalledAt, IsRepliedAt, HasHistory, EachAtItsPlace}
+use Rattle.placement.proofs.Replays.{Follows}
+use Rattle.run_clients.specs.declared.answer_time.AnswerTime.TheVariants.{At, Never}
+use Rattle.run_clients.specs.declared.file_call.FileCall.{FileCall}
+use Rattle.run_clients.specs.rule.Seen.{IsTimed, op_of, item_deeds, call_of, AreSeen, IsLastCall, IsOpenCall, AreOpen, IsSeen, IsAllSeen, AreExplained, lock_deed}
 use Rattle.std.proofs.lemmas.Bool.{cases_lt, and_from, and_parts, eqb-true, false≢true}
 use Rattle.std.proofs.lemmas.Option.{same_Some, none-some}
 use Rattle.model.specs.declared.call.CallId.{CallId}
 use Rattle.model.specs.declared.op.Op.{Op}
-use Rattle.model.specs.declared.process.Process.{Process}
-use Rattle.model.specs.declared.reply.Reply.{Reply}
-use Rattle.model.specs.declared.reply.Reply.TheVariants.{Done}
 use Rattle.model.specs.rule.Limits.{IsNumber, IsProcess, most_nodes, most_processes}
-use Rattle.model.specs.rule.Table.{Table}
 use Rattle.messages.specs.declared.event.Event.{Event}
 use Rattle.messages.specs.declared.event.Event.TheVariants.{AtNode, AtServer, Deliver, Member}
 use Rattle.messages.specs.declared.event.NodeInput.TheVariants.{Call, Interrupt, Retry}
-use Rattle.messages.specs.declared.entry.Entry.{Entry}
 use Rattle.messages.specs.rule.Messages.{same_call}
 use Rattle.messages.proofs.SameMessages.{call_exact, call_refl}
-use Rattle.cluster_core.specs.rule.Histories.{caller, EntryAt, IsCalledAt, IsRepliedAt}
-use Rattle.run_clients.specs.declared.answer_time.AnswerTime.TheVariants.{Never}
 use Rattle.run_clients.specs.declared.deed.Deed.{Deed}
-use Rattle.run_clients.specs.declared.file_call.FileCall.{FileCall}
 use Rattle.run_clients.specs.declared.made_call.MadeCall.{MadeCall}
-use Rattle.run_clients.specs.rule.Deeds.{lock_deed}
-use Rattle.run_clients.specs.rule.Seen.{call_of, IsLastCall, IsOpenCall, AreOpen}
-use Rattle.run_clients.proofs.LastCalls.{one_entry}
-use Rattle.run_clients.proofs.OpenCalls.{joined_open}
+use Rattle.run_clients.proofs.LastCalls.{one_entry, joined_open, each_open}
+use Rattle.messages.specs.rule.Shapes.{ShapeFields, most_regions}
+use Rattle.cluster_core.specs.rule.World.{journal_limit}
+use Rattle.cluster_core.specs.rule.Union.{union}
+use Rattle.run_clients.proofs.Runs.{seen_of, seen_is_explained}
+
+abbrev close_answer : Table → Process → ℕ → Option Opened → Bool → Table × Reply
+close_answer t p fd x b = if b then closed_at t p fd x else (t, NoProcess)
+
+abbrev exit_answer : Table → Process → Bool → Table × Reply
+exit_answer t p b = if b then (exited t p, Done) else (t, NoProcess)
+
+module _ (t : Table) (p : Process) where
+  runs_closing : (fd : ℕ) (x : Option Opened) (b : Bool) → Done ≡ (close_answer t p fd x b).1 → b ≡ true
+  runs_closing fd x true h = refl
+  runs_closing fd x false h = absurd (cc)
+
+  -- the process of a close that is done runs
+  pub close_runs : (fd : ℕ) (next : Table) → Is (after_close t p fd) Done next → is_running t p ≡ true
+  close_runs fd next h = runs_closing fd (descriptor t p fd) (is_running t p) h.0
+
+  closed_so : (fd : ℕ) (x : Option Opened) (b : Bool) → Done ≡ (close_answer t p fd x b).1 → closed_if t p fd x ≡ (close_answer t p fd x b).0
+  closed_so fd (Some o) true h = refl
+  closed_so fd None true h = refl
+  closed_so fd x false h = absurd (cc)
+
+  pub close_step : (fd : ℕ) (next new : Table) → Is (after_close t p fd) Done next → new ≡ closed_if t p fd (descriptor t p fd) → Is (after_close t p fd) Done new
+  close_step fd next new h is = (h.0, is ∙ closed_so fd (descriptor t p fd) (is_running t p) h.0)
+
+  runs_exiting : (b : Bool) → Done ≡ (exit_answer t p b).1 → b ≡ true
+  runs_exiting true h = refl
+  runs_exiting false h = absurd (cc)
+
+  -- the process of an exit that is done runs
+  pub exit_runs : (next : Table) → Is (after_exit t p) Done next → is_running t p ≡ true
+  exit_runs next h = runs_exiting (is_running t p) h.0
+
+  exited_so : (b : Bool) → Done ≡ (exit_answer t p b).1 → exited t p ≡ (exit_answer t p b).0
+  exited_so true h = refl
+  exited_so false h = absurd (cc)
+
+  pub exit_step : (next new : Table) → Is (after_exit t p) Done next → new ≡ exited t p → Is (after_exit t p) Done new
+  exit_step next new h is = (h.0, is ∙ exited_so (is_running t p) h.0)
+
+-- the calls seen so far, and those that will be seen from this table on, are all that are seen from the first
+abbrev pub SeenSoFar : List Entry → Table → List Item → Table → List Item → List FileCall → Type 0
+SeenSoFar es first items t rest seen = (more : List FileCall) (last : Table) → AreSeen es t rest more last → AreSeen es first items (seen ++ more) last
+
+first_is_next : (items : List Item) (k : ℕ) (i : Item) → k < length items → i ≡ get_or items k i → drop k items ≡ i ∷ drop (k + 1) items
+first_is_next items k i lt is = drop-cons items k i lt ∙ rw (← is, add-one) refl
+
+-- the table allows the item that comes next
+pub may_follow : (version : Version) (items : List Item) (k : ℕ) (i : Item) (t : Table) → k < length items → i ≡ get_or items k i → IsLegal version items → Follows version items (drop k items) t → (next : Table) × ItemStep t i next
+may_follow version items k i t lt is legal follows =
+    let P : List Item → Type 0 = λ rest. Follows version items rest t in
+    let from = (subst P (first_is_next items k i lt is) follows).back legal in
+    (from.1.0, from.1.1)
+
+pub seen_start : (es : List Entry) (first t : Table) (items xs : List Item) (seen : List FileCall) → t ≡ first → xs ≡ items → seen ≡ [] → SeenSoFar es first items t xs seen
+seen_start es first t items xs seen here same none =
+    subst (λ (u : Table). SeenSoFar es first items u xs seen) (sym here)
+    (subst (λ (ys : List Item). SeenSoFar es first items first ys seen) (sym same)
+    (subst (λ (ss : List FileCall). SeenSoFar es first items first items ss) (sym none) (λ more last h. h)))
+
+pub seen_more : (es : List Entry) (first t u : Table) (items : List Item) (k : ℕ) (i : Item) (begin end : ℕ) (seen next : List FileCall) → k < length items → i ≡ get_or items k i → ItemStep t i u → IsTimed es i begin end → next ≡ seen ++ map (call_of (op_of i) begin (At end)) (item_deeds t i) → SeenSoFar es first items t (drop k items) seen → SeenSoFar es first items u (drop (k + 1) items) next
+seen_more es first t u items k i begin end seen next lt is step timed added so_far more last h =
+    let these = map (call_of (op_of i) begin (At end)) (item_deeds t i) in
+    let all : AreSeen es first items (seen ++ (these ++ more)) last = so_far (these ++ more) last (subst (λ (rest : List Item). AreSeen es t rest (these ++ more) last) (sym (first_is_next items k i lt is)) (u, begin, end, more, step, timed, refl, h)) in
+    let joined : next ++ more ≡ seen ++ (these ++ more) = ap (λ (ss : List FileCall). ss ++ more) added ∙ append_assoc seen these more in
+    subst (λ (ss : List FileCall). AreSeen es first items ss last) (sym joined) all
+
+pub seen_whole : (es : List Entry) (first t : Table) (items : List Item) (k : ℕ) (seen : List FileCall) → length items ≤ k → SeenSoFar es first items t (drop k items) seen → AreSeen es first items seen t
+seen_whole es first t items k seen all so_far =
+    let whole : AreSeen es first items (seen ++ []) t = so_far [] t (subst (λ (rest : List Item). AreSeen es t rest [] t) (sym (drop_all k items all)) (refl, refl)) in
+    subst (λ (ss : List FileCall). AreSeen es first items ss t) (append-nil seen) whole
 
 -- some element is so at its place, or none is
 found_or_none : (P : ℕ → Entry → Type 0) → ((k : ℕ) (e : Entry) → P k e ⊎ (P k e → ⊥)) → (es : List Entry) → ((k : ℕ) × (e : Entry) × (slice_get es k ≡ Some e) × P k e) ⊎ ((k : ℕ) (e : Entry) → slice_get es k ≡ Some e → P k e → ⊥)
@@ -242,3 +321,22 @@ open_calls_up_to es last (suc n) le =
     let at : suc n ≡ n + 1 = omega arith in
     let one = found_there es last (suc n) n entry.0 (n, at, entry.1) at in
     (before.0 ++ one.0, joined_open es last 0 n (suc n + 1) before.0 one.0 (omega arith) (omega arith) before.1 one.1)
+
+pub run_is_explained : (shape : ShapeFields) (es : List Entry) → length es ≤ journal_limit → (h : List Item) → HasHistory shape es h → EachAtItsPlace es h → (seen : List FileCall) × IsAllSeen shape es seen × AreExplained seen
+run_is_explained shape es few h is_history at_places =
+    let first = empty_table (most_regions shape.version) in
+    let last = union is_history.world in
+    let found = seen_of es first last h is_history.fits.placed is_history.legal in
+    let opened = open_calls_up_to es last (length es) (omega arith) in
+    let s : IsSeen shape es (found.0 ++ opened.0) = record {
+      history = h;
+      is_history = is_history;
+      at_places = at_places;
+      answered = found.0;
+      last = last;
+      calls = found.1;
+      unanswered = opened.0;
+      open_calls = each_open es last 0 (length es + 1) opened.0 opened.1;
+      are = refl;
+    } in
+    (found.0 ++ opened.0, (s, opened.1), seen_is_explained shape es (found.0 ++ opened.0) few s)

@@ -1,17 +1,6 @@
 mod Calls
 mod Drops
 mod EachOpen
-mod EachRun
-mod Explains
-mod FileViews
-mod Following
-mod Going
-mod Kept
 mod LastCalls
-mod LockDeeds
-mod Lookups
-mod Noting
-mod OpenCalls
 mod Runs
 mod Shut
-mod Timing

@@ -15,11 +15,10 @@ use Rattle.model.specs.rule.Step.{Is}
 use Rattle.model.proofs.Hanging.{itself}
 use Rattle.model.proofs.Closings.{open_if}
 use Rattle.model.proofs.FailLaws.{exited-by, exited_to-none}
-use Rattle.run_clients.specs.code.Anchored.{AreAnchored}
+use Rattle.run_clients.specs.code.Times.{AreAnchored}
 use Rattle.run_clients.specs.declared.deed.Deed.{Deed}
-use Rattle.run_clients.specs.rule.Deeds.{closing, closings_below, exit_deeds, exit_deeds_if, exits_to}
-use Rattle.run_clients.proofs.Kept.{closed_below-zero, closed_below-suc}
-use Rattle.run_clients.proofs.Drops.{closings-suc, exits_to-zero, exits_to-suc}
+use Rattle.run_clients.specs.rule.Seen.{closing, closings_below, exit_deeds, exit_deeds_if, exits_to}
+use Rattle.run_clients.proofs.Drops.{closed_below-zero, closed_below-suc, closings-suc, exits_to-zero, exits_to-suc}
 
 -- before the first descriptor there are no deeds
 pub none_at_first : (ds es : List Deed) → es ≡ [] → ds ≡ ds ++ es

@@ -1,4 +1,1 @@
-pub mod Anchored
-pub mod LastCalls
-pub mod References
 pub mod Times

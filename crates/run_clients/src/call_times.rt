@@ -3,13 +3,12 @@ ghost use Rattle.std.specs.Prelude.{◌≡◌, ◌≤◌, ◌+◌, ℕ, List, le
 ghost use Rattle.messages.specs.declared.entry.Entry.{Entry};
 ghost use Rattle.cluster_core.specs.rule.World.{journal_limit};
 ghost use Rattle.cluster_core.specs.rule.Histories.{EntryAt, caller};
-ghost use Rattle.run_clients.specs.code.LastCalls.{AreLast, NotesLast, last_of, name_of};
-ghost use Rattle.run_clients.specs.code.Times.{AreFound, AreTimes, IsAnswered, IsKept, IsKnown, IsMade, Notes, position_of_call};
+ghost use Rattle.run_clients.specs.code.Times.{AreLast, NotesLast, last_of, name_of, AreFound, AreTimes, IsAnswered, IsKept, IsKnown, IsMade, Notes, position_of_call};
 
 use crate::made_call::{MadeCall, ProcessName, made_by, name_of};
-use cluster_core::item::Item;
-use messages::entry::Entry;
-use model::call::CallId;
+use cluster_core::Item;
+use messages::Entry;
+use model::CallId;
 use std::alloc::{AllocError, Global};
 use std::collections::HashMap;
 

@@ -7,9 +7,8 @@ ghost use Rattle.model.specs.rule.Table.{Table};
 ghost use Rattle.messages.specs.declared.entry.Entry.{Entry};
 ghost use Rattle.cluster_core.specs.rule.Histories.{EntryAt, ItemStep};
 ghost use Rattle.fcntl_table.specs.rule.Tables.{table_of};
-ghost use Rattle.run_clients.specs.code.Anchored.{AreAnchored};
+ghost use Rattle.run_clients.specs.code.Times.{AreAnchored, AreTimes, IsKept, IsKnown};
 ghost use Rattle.run_clients.specs.declared.answer_time.AnswerTime.TheVariants.{At};
-ghost use Rattle.run_clients.specs.code.Times.{AreTimes, IsKept, IsKnown};
 ghost use Rattle.run_clients.specs.rule.Seen.{AreExplained, IsAllSeen, call_of, item_deeds, op_of};
 
 use crate::answer_time::AnswerTime;
@@ -18,10 +17,9 @@ use crate::deed::Deed;
 use crate::file_call::FileCall;
 use crate::follow::take;
 use crate::open_calls::push_open_calls;
-use cluster_core::item::Item;
-use cluster_core::journal::Journal;
+use cluster_core::{Item, Journal};
 use fcntl_table::table::FcntlTable;
-use model::op::Op;
+use model::Op;
 use placement::placed::placed;
 use std::alloc::{AllocError, Global};
 

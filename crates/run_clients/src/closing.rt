@@ -5,16 +5,14 @@ ghost use Rattle.model.specs.rule.Limits.{IsHost};
 ghost use Rattle.model.specs.rule.Owners.{process_owner};
 ghost use Rattle.model.specs.rule.Table.{is_running, descriptor, closed_if, exited, exited_if, gone};
 ghost use Rattle.fcntl_table.specs.rule.Tables.{table_of};
-ghost use Rattle.run_clients.specs.rule.Deeds.{closing, exit_deeds, exit_deeds_if, gone_deeds};
-ghost use Rattle.run_clients.specs.code.Anchored.{AreAnchored};
+ghost use Rattle.run_clients.specs.rule.Seen.{closing, exit_deeds, exit_deeds_if, gone_deeds};
+ghost use Rattle.run_clients.specs.code.Times.{AreAnchored};
 
 use crate::deed::Deed;
 use crate::references::{is_open, is_running, refers};
-use client_history::act::Act;
+use client_history::Act;
 use fcntl_table::table::FcntlTable;
-use model::limits::{MOST_DESCRIPTORS, MOST_NODES, MOST_PROCESSES};
-use model::owner::{Kind, Owner};
-use model::process::Process;
+use model::{Kind, MOST_DESCRIPTORS, MOST_NODES, MOST_PROCESSES, Owner, Process};
 use std::alloc::AllocError;
 
 /// Closes the descriptor of the process, which runs, if the process has it.

@@ -1,6 +1,6 @@
 //! A deed: what a call does to the locks of a file.
-use client_history::act::Act;
-use model::owner::Owner;
+use client_history::Act;
+use model::Owner;
 
 /// The act on the locks of a file, and the owner that made it.
 #[derive(Clone, Copy)]

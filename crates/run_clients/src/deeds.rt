@@ -2,19 +2,13 @@
 //! refused.
 ghost use Rattle.std.specs.Prelude.{◌≡◌, ◌++◌, ◌∷◌, [], OnOk};
 ghost use Rattle.fcntl_table.specs.rule.Tables.{table_of};
-ghost use Rattle.run_clients.specs.rule.Deeds.{asking, denied, listed, lock_deed, locking, unlocking};
+ghost use Rattle.run_clients.specs.rule.Seen.{asking, denied, listed, lock_deed, locking, unlocking};
 
 use crate::deed::Deed;
-use client_history::act::Act;
-use client_history::told_lock::ToldLock;
+use client_history::{Act, ToldLock};
 use fcntl_table::table::FcntlTable;
 use intervals::span::Span;
-use model::lock_info::LockInfo;
-use model::lock_target::LockTarget;
-use model::mode::Mode;
-use model::op::{LockCall, LockCommand, Op};
-use model::process::Process;
-use model::reply::Reply;
+use model::{LockCall, LockCommand, LockInfo, LockTarget, Mode, Op, Process, Reply};
 use std::alloc::AllocError;
 
 /// Adds the deed of a lock call with this reply, if it does or says something. There is none where the call is no

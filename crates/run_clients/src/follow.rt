@@ -5,19 +5,15 @@ ghost use Rattle.model.specs.rule.Table.{Table};
 ghost use Rattle.model.specs.rule.Limits.{IsProcess};
 ghost use Rattle.cluster_core.specs.rule.Histories.{caller, ItemStep};
 ghost use Rattle.fcntl_table.specs.rule.Tables.{table_of};
-ghost use Rattle.run_clients.specs.code.Anchored.{AreAnchored};
-ghost use Rattle.run_clients.specs.rule.Deeds.{listed, lock_deed};
-ghost use Rattle.run_clients.specs.rule.Seen.{item_deeds};
+ghost use Rattle.run_clients.specs.code.Times.{AreAnchored};
+ghost use Rattle.run_clients.specs.rule.Seen.{listed, lock_deed, item_deeds};
 
 use crate::closing::{close, exit, fail};
 use crate::deed::Deed;
 use crate::deeds::push_lock_deed;
-use cluster_core::item::Item;
+use cluster_core::Item;
 use fcntl_table::table::FcntlTable;
-use model::call::CallId;
-use model::op::Op;
-use model::process::Process;
-use model::reply::Reply;
+use model::{CallId, Op, Process, Reply};
 use placement::legal::follow;
 use std::alloc::AllocError;
 

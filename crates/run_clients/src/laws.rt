@@ -1,7 +1,7 @@
 //! The law of what the clients of every run saw, as the contract of a function that does nothing.
 ghost use Rattle.run_clients.specs.rule.Seen.{EveryRunIsExplained};
 
-use cluster_core::laws::every_run_has_a_history;
+use cluster_core::every_run_has_a_history;
 
 /// Whatever calls are made, in whatever order messages are delivered, lost or repeated, and whichever nodes and
 /// servers fail: one table of record locks explains what the clients saw of each file, each call at a place between

@@ -2,12 +2,10 @@
 ghost use Rattle.std.specs.Prelude.{◌≡◌};
 ghost use Rattle.messages.specs.rule.Entries.{NamesItsCall};
 ghost use Rattle.cluster_core.specs.rule.Histories.{caller};
-ghost use Rattle.run_clients.specs.code.LastCalls.{made_by, name_of};
+ghost use Rattle.run_clients.specs.code.Times.{made_by, name_of};
 
-use messages::entry::Entry;
-use messages::event::{Event, NodeInput};
-use model::call::CallId;
-use model::op::Op;
+use messages::{Entry, Event, NodeInput};
+use model::{CallId, Op};
 
 /// A call, the number of its process, and what it asks for.
 #[derive(Clone, Copy)]

@@ -16,11 +16,8 @@ use crate::deeds::push_lock_deed;
 use crate::file_call::FileCall;
 use crate::made_call::made_by;
 use fcntl_table::table::FcntlTable;
-use messages::entry::Entry;
-use model::call::CallId;
-use model::limits::MOST_PROCESSES;
-use model::process::Process;
-use model::reply::Reply;
+use messages::Entry;
+use model::{CallId, MOST_PROCESSES, Process, Reply};
 use std::alloc::{AllocError, Global};
 
 /// Adds the lock calls of the entries that are open, each with the deed that it would have if it were answered in the

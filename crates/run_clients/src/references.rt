@@ -4,14 +4,10 @@ ghost use Rattle.model.specs.declared.opened.Opened.{Opened};
 ghost use Rattle.model.specs.rule.Descriptors.{is_of, is_open};
 ghost use Rattle.model.specs.rule.Table.{around, is_running};
 ghost use Rattle.fcntl_table.specs.rule.Tables.{table_of};
-ghost use Rattle.run_clients.specs.code.References.{refers, has_description};
+ghost use Rattle.run_clients.specs.code.Times.{refers, has_description};
 
 use fcntl_table::table::FcntlTable;
-use model::limits::{MOST_DESCRIPTORS, MOST_PROCESSES};
-use model::lock_target::LockTarget;
-use model::owner::Kind;
-use model::process::Process;
-use model::reply::Reply;
+use model::{Kind, LockTarget, MOST_DESCRIPTORS, MOST_PROCESSES, Process, Reply};
 
 /// The reference of the process's descriptor: its file and the description, with every byte. `None` where the process
 /// doesn't run or has no such descriptor.

@@ -1,7 +1,7 @@
 //! The histories that the clients of a run saw, as text.
 use crate::clients::clients_of;
 use crate::text_of_call::push_call;
-use cluster_core::journal::Journal;
+use cluster_core::Journal;
 use std::alloc::{AllocError, Global};
 
 /// The calls that the clients of the journal's run saw, as the text of a client history (docs/FORMATS.md), one line

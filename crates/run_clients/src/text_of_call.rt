@@ -1,12 +1,9 @@
 //! The line of a call in a client history.
 use crate::answer_time::AnswerTime;
 use crate::file_call::FileCall;
-use client_history::act::Act;
-use client_history::told_lock::ToldLock;
+use client_history::{Act, ToldLock};
 use intervals::span::{GREATEST, Span};
-use model::mode::Mode;
-use model::op::{LockCommand, Op};
-use model::owner::{Kind, Owner};
+use model::{Kind, LockCommand, Mode, Op, Owner};
 use std::alloc::AllocError;
 use std::fmt::Write;
 use texts::words::Named;

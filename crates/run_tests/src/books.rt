@@ -1,14 +1,8 @@
 //! Books of tests, with the seats that take their steps.
 ghost use Rattle.std.specs.Prelude.{◌≡◌, IfSome};
 
-use book::book::Book;
-use book::mark::Mark;
-use book::new_trail::NewTrail;
-use book::seat::Seat;
-use book::stamp::Stamp;
-use book::trail_name::Name;
-use messages::event::Event;
-use messages::shape::Shape;
+use book::{Book, Mark, Name, NewTrail, Seat, Stamp};
+use messages::{Event, Shape};
 use std::alloc::{AllocError, Global};
 
 /// A book and the seats of its actors.

@@ -2,19 +2,11 @@
 ghost use Rattle.std.specs.Prelude.{◌≡◌, length};
 
 use crate::gates::wait_for;
-use actors::client::Client;
-use actors::cluster::{Cluster, with_cluster};
-use actors::gate::{Gate, OpenGate};
-use actors::weather::{Fair, Weather};
-use book::confirms::Confirms;
-use book::receipt::Receipt;
-use cluster_core::journal::Journal;
-use messages::shape::Shape;
-use model::access::Access;
-use model::mode::Mode;
-use model::op::{LockCall, LockCommand, Op, ProcessCall};
-use model::owner::Kind;
-use model::policy::Policy;
+use actors::{Client, Cluster, Fair, Gate, OpenGate, Weather, with_cluster};
+use book::{Confirms, Receipt};
+use cluster_core::Journal;
+use messages::Shape;
+use model::{Access, Kind, LockCall, LockCommand, Mode, Op, Policy, ProcessCall};
 use std::alloc::Global;
 use std::marker::Brand;
 use std::sync::Wait;

@@ -1,6 +1,6 @@
 //! Gates that hold actors, at most 10,000 turns of one millisecond.
-use actors::gate::{Gate, GatePoint};
-use messages::actor::Actor;
+use actors::{Gate, GatePoint};
+use messages::Actor;
 use std::sync::atomic::{AtomicU64, Ordering};
 use std::thread;
 use std::time::{Clock, Duration};
@@ -16,44 +16,6 @@ pub fn wait_for<R: Clock>(rt: &R, word: &AtomicU64) -> bool {
         thread::sleep(rt, Duration::from_millis(1));
     }
     false
-}
-
-/// Holds nobody, says that it is open or that it isn't, and counts the steps that it is told of.
-#[derive(Drop)]
-pub struct Counter {
-    is_open: bool,
-    committed: AtomicU64,
-}
-
-impl Counter {
-    pub fn new(is_open: bool) -> Counter {
-        Counter {
-            is_open,
-            committed: AtomicU64::new(0),
-        }
-    }
-
-    /// Whether the gate was told of so many steps, or of fewer where it is open.
-    pub fn was_told(&self, steps: usize) -> bool {
-        let told = self.committed.load(Ordering::SeqCst) as usize;
-        if self.is_open {
-            told < steps
-        } else {
-            told == steps
-        }
-    }
-}
-
-impl Gate for Counter {
-    fn at(&self, point: GatePoint) {
-        if let GatePoint::Committed(..) = point {
-            self.committed.fetch_add(1, Ordering::SeqCst);
-        }
-    }
-
-    fn is_open(&self) -> bool {
-        self.is_open
-    }
 }
 
 /// Once armed, holds the next step that node 1 prepares until it is let go, and up to that step those of node 2. A step that

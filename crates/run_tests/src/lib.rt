@@ -1,5 +1,5 @@
-//! Tests of the libraries through their public calls, where no script leads: values that no run brings to a map or a table, messages
-//! that no run sends, histories that no run has, seats and steps of a book, gates that hold an actor.
+//! Tests of the libraries through their public calls, where no script leads: values that no run brings to a map or a table, histories
+//! that no run has, seats and steps of a book, refused requests for memory, gates that hold an actor.
 #![tactic(auto)]
 
 #[cfg(test)]
@@ -9,15 +9,9 @@ mod clusters;
 #[cfg(test)]
 mod gates;
 #[cfg(test)]
-mod journals;
-#[cfg(test)]
-mod machines;
-#[cfg(test)]
 mod of_actors;
 #[cfg(test)]
 mod of_book;
-#[cfg(test)]
-mod of_client_history;
 #[cfg(test)]
 mod of_clients;
 #[cfg(test)]
@@ -25,21 +19,9 @@ mod of_cluster_core;
 #[cfg(test)]
 mod of_descriptors;
 #[cfg(test)]
-mod of_history;
-#[cfg(test)]
 mod of_intervals;
 #[cfg(test)]
-mod of_journal_text;
-#[cfg(test)]
 mod of_lock_table;
-#[cfg(test)]
-mod of_lockscript;
-#[cfg(test)]
-mod of_merges;
-#[cfg(test)]
-mod of_messages;
-#[cfg(test)]
-mod of_node_core;
 #[cfg(test)]
 mod of_placement;
 #[cfg(test)]
@@ -49,12 +31,6 @@ mod of_refused_memory;
 #[cfg(test)]
 mod of_threads;
 #[cfg(test)]
-mod of_token_server;
-#[cfg(test)]
-mod of_token_set;
-#[cfg(test)]
 mod of_waits;
 #[cfg(test)]
 mod of_weathers;
-#[cfg(test)]
-mod under_way;

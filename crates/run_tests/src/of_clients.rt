@@ -1,15 +1,10 @@
 //! Clients on threads that are told of another cluster's receipt.
 use crate::clusters::{Caller, clients, runs_fairly};
-use crate::gates::Counter;
-use actors::call_error::CallError;
-use actors::cluster::with_cluster;
-use actors::gate::{Gate, OpenGate};
-use actors::weather::Fair;
-use book::confirms::Confirms;
-use book::receipt::Receipt;
-use messages::shape::Shape;
-use model::op::{Op, ProcessCall};
-use model::policy::Policy;
+use crate::gates::Holder;
+use actors::{CallError, Fair, Gate, OpenGate, with_cluster};
+use book::{Confirms, Receipt};
+use messages::Shape;
+use model::{Op, Policy, ProcessCall};
 use std::alloc::Global;
 use std::sync::Wait;
 use std::test::Fail;
@@ -77,7 +72,7 @@ fn a_receipt_of_another_cluster_is_refused(rt: HostRuntime) -> Result<(), Fail> 
         return Ok(());
     };
     let is_right = is_stale(&rt, rt.alloc(), &OpenGate, &strange)?
-        && is_stale(&rt, rt.alloc(), &Counter::new(false), &strange)?;
+        && is_stale(&rt, rt.alloc(), &Holder::new(&rt, false), &strange)?;
     assert!(rt; is_right);
     Ok(())
 }

@@ -1,60 +1,39 @@
-//! Runs that are made of their events, some of which no script has, and a world that has as many entries as it may have.
-use cluster_core::journal::run;
-use cluster_core::world::World;
-use messages::event::{Event, MemberEvent, NodeInput, ServerInput};
-use messages::refusal::Refused;
-use messages::shape::Shape;
-use model::op::{Op, ProcessCall};
-use model::policy::Policy;
-use node_core::node::Node;
+//! Runs that are made of their events, and a world that has as many entries as it may have.
+use cluster_core::World;
+use cluster_core::journal::{Journal, run};
+use journal_text::journal::print;
+use messages::{Event, MemberEvent, NodeInput, Refused, Shape};
+use model::{Op, Policy, ProcessCall};
+use node_core::Node;
 use std::alloc::{AllocError, Global};
 use std::test::Fail;
-use token_server::server::Server;
+use token_server::Server;
+
+const TWO_CALLS: &str = "journal 1 nodes 1 files 1 policy wide
+entry 1 call 1.1.1 1 spawn
+reply 1.1.1 done
+entry 2 call 1.1.2 2 spawn
+reply 1.1.2 done
+end 2
+";
 
 fn spawn(pid: u16) -> Event {
     let op = Op::Process(ProcessCall::Spawn);
     Event::AtNode(1, NodeInput::Call { pid, op })
 }
 
-// Whether a process begins, and the event behind that is refused as one of what the cluster doesn't have.
-fn is_refused(alloc: Global, shape: Shape, last: Event) -> bool {
-    run(alloc, shape, &[spawn(1), last]).err() == Some(Refused::Stranger)
-}
-
-// Whether no process of node 1 has the number, and no process has one of node 0.
-fn lacks_process(alloc: Global, shape: Shape, pid: u16) -> bool {
-    is_refused(alloc, shape, spawn(pid))
-        && is_refused(alloc, shape, Event::AtNode(1, NodeInput::Interrupt { pid }))
-        && is_refused(alloc, shape, Event::AtNode(0, NodeInput::Retry { pid: 1 }))
-}
-
-fn lacks_file(alloc: Global, shape: Shape, file: u16) -> bool {
-    is_refused(alloc, shape, Event::AtServer(file, ServerInput::Resend))
-        && is_refused(
-            alloc,
-            shape,
-            Event::Member(MemberEvent::FailServer { file }),
-        )
-        && is_refused(
-            alloc,
-            shape,
-            Event::Member(MemberEvent::StartServer { file }),
-        )
-}
-
-// Whether a run of two processes has two entries.
-fn is_run(alloc: Global, shape: Shape) -> bool {
-    match run(alloc, shape, &[spawn(1), spawn(2)]) {
-        Ok(journal) => journal.entries().len() == 2,
-        Err(_) => false,
-    }
+// A run in which processes begin of these numbers.
+fn run_of(alloc: Global, shape: Shape, first: u16, second: u16) -> Result<Journal, Refused> {
+    run(alloc, shape, &[spawn(first), spawn(second)])
 }
 
 #[test]
 fn a_run_ends_at_the_first_refusal(rt: HostRuntime) -> Result<(), Fail> {
-    let shape = Shape::new(1, 2, Policy::Wide)?;
-    assert!(rt; is_run(rt.alloc(), shape) && lacks_file(rt.alloc(), shape, 0));
-    assert!(rt; lacks_process(rt.alloc(), shape, 0) && lacks_process(rt.alloc(), shape, 257));
+    let shape = Shape::version1(1, 1, Policy::Wide)?;
+    let journal = run_of(rt.alloc(), shape, 1, 2)?;
+    let text = print(rt.alloc(), &shape, journal.entries())?;
+    let refused = run_of(rt.alloc(), shape, 1, 257).err();
+    assert!(rt; text.as_str() == TWO_CALLS && refused == Some(Refused::Stranger));
     Ok(())
 }
 

@@ -1,7 +1,7 @@
 //! Processes and what they have open, where each change is made at once. (A node plans each.)
 use descriptors::error::ProcessError;
 use descriptors::processes::Processes;
-use model::access::Access;
+use model::Access;
 use std::alloc::{AllocError, Global};
 use std::test::Fail;
 

@@ -5,10 +5,10 @@ ghost use Rattle.intervals.specs.rule.Bytes.{greatest};
 
 use intervals::replay::{SpanWrite, replay};
 use intervals::span::{GREATEST, Span};
-use intervals::span_map::{Exact, SpanMap};
+use intervals::span_map::SpanMap;
 use intervals::tree_map::TreeMap;
 use intervals::vec_map::VecMap;
-use model::mode::Mode;
+use model::Mode;
 use std::alloc::{AllocError, Global};
 use std::test::Fail;
 
@@ -108,14 +108,6 @@ fn covers<S: SpanMap<Mode>>(map: &S) -> bool {
         && map.largest_around(some, Span { lo: 5, hi: 40 }, None) == Span { lo: 10, hi: 19 }
 }
 
-// Whether a copy is the same, until it changes.
-fn copies<S: SpanMap<Mode>>(map: &S) -> Result<bool, AllocError> {
-    let mut copy = map.copy()?;
-    let was_same = map.same(&copy);
-    let is_set = copy.set(Span { lo: 3, hi: 3 }, Mode::Write).is_ok();
-    Ok(was_same && is_set && !map.same(&copy) && map.get(3) == A)
-}
-
 const WRITES: [SpanWrite<Mode>; 3] = [
     SpanWrite {
         span: Span { lo: 0, hi: 9 },
@@ -134,7 +126,7 @@ const WRITES: [SpanWrite<Mode>; 3] = [
 // Whether the map of a list of writes takes the steps, and is then told by its bytes.
 fn goes_on<S: SpanMap<Mode>>(map: &mut S) -> Result<bool, AllocError> {
     let is_made = has(map, 3, 6, Some((6, 9, Mode::Read)));
-    Ok(is_made && takes_all(map)? && has_firsts(map) && covers(map) && copies(map)?)
+    Ok(is_made && takes_all(map)? && has_firsts(map) && covers(map))
 }
 
 fn is_right<S: SpanMap<Mode>>(alloc: Global) -> Result<bool, AllocError> {
@@ -146,30 +138,6 @@ fn is_right<S: SpanMap<Mode>>(alloc: Global) -> Result<bool, AllocError> {
 fn each_map_takes_steps(rt: HostRuntime) -> Result<(), Fail> {
     let is_right = is_right::<VecMap<Mode>>(rt.alloc())? && is_right::<TreeMap<Mode>>(rt.alloc())?;
     assert!(rt; is_right);
-    Ok(())
-}
-
-// Whether a write that was planned for fewer runs changes nothing.
-fn is_stale<V: Exact>(map: &mut TreeMap<V>, value: V) -> Result<bool, AllocError> {
-    map.set(Span { lo: 10, hi: 14 }, value)?;
-    let edit = map.plan(Span { lo: 0, hi: 4 }, Some(value))?;
-    let did_fit = map.fits(&edit);
-    let is_set = map.set(Span { lo: 20, hi: 24 }, value).is_ok();
-    let fits = map.fits(&edit);
-    map.apply(edit);
-    let is_kept = map.starts() == 2 && map.covers(Span { lo: 10, hi: 14 }, value);
-    Ok(did_fit && is_set && !fits && is_kept && map.get(4).is_none())
-}
-
-fn is_stale_in_new<V: Exact>(alloc: Global, value: V) -> Result<bool, AllocError> {
-    let mut map = Box::new(alloc, TreeMap::new(alloc))?;
-    is_stale(&mut map, value)
-}
-
-#[test]
-fn a_write_that_was_planned_for_fewer_runs_changes_nothing(rt: HostRuntime) -> Result<(), Fail> {
-    let is_stale = is_stale_in_new(rt.alloc(), Mode::Read)?;
-    assert!(rt; is_stale);
     Ok(())
 }
 

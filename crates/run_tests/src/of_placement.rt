@@ -1,17 +1,11 @@
 //! Which histories are legal, and what is one: so what the table of a single machine answers, at values from outside and worked out by
 //! hand. (What the history of a journal is, is shown by runs of the program.)
-use cluster_core::item::Item;
+use cluster_core::Item;
 use journal_text::replies::reply_of;
-use lockscript::operations::Operation;
-use message_text::names::{CallName, HostName};
-use message_text::numbers::PidField;
-use messages::version::Version;
-use model::call::CallId;
-use model::host::Host;
-use model::mode::Mode;
-use model::op::{LockCall, LockCommand, Op, ProcessCall};
-use model::owner::Kind;
-use model::reply::Reply;
+use lockscript::Operation;
+use message_text::{CallName, HostName, PidField};
+use messages::Version;
+use model::Host;
 use placement::history::History;
 use placement::legal::legal;
 use std::alloc::Global;
@@ -97,19 +91,9 @@ then 1.1.8 2 exit -> done
 may 2.1.3 1 set 0 proc write 40 10 -> done
 ";
 
-// The place of one more item, from 1.
-fn next_place(items: &Vec<Item>) -> Option<u32> {
-    u32::try_from(items.len()).ok()?.checked_add(1)
-}
-
-// One more item. No answer, here and below, is a refused request for memory.
-fn put<T: Drop>(items: &mut Vec<T>, item: T) -> Option<()> {
-    items.push(item).ok()
-}
-
-// The item that the line writes, too.
+// The item that the line writes, too. No answer, here and below, is a refused request for memory.
 fn put_line(items: &mut Vec<Item>, line: &str) -> Option<()> {
-    let position = next_place(items)?;
+    let position = u32::try_from(items.len()).ok()?.checked_add(1)?;
     if let Some(gone) = after(line, "gone ") {
         let Host { node, incarnation } = HostName::read(gone)?;
         let item = Item::Gone {
@@ -117,7 +101,7 @@ fn put_line(items: &mut Vec<Item>, line: &str) -> Option<()> {
             node,
             incarnation,
         };
-        return put(items, item);
+        return items.push(item).ok();
     }
     let (call, reply) = line.split_once(" -> ")?;
     let (id, (pid, op)) = <(CallName, (PidField, Operation))>::read(call)?;
@@ -129,7 +113,7 @@ fn put_line(items: &mut Vec<Item>, line: &str) -> Option<()> {
         op,
         reply,
     };
-    put(items, item)
+    items.push(item).ok()
 }
 
 // The items of all the lines.
@@ -140,25 +124,13 @@ fn put_lines(items: &mut Vec<Item>, text: &str) -> Option<()> {
     Some(())
 }
 
-// The items with which a history begins.
-fn begins(alloc: Global) -> Option<Vec<Item>> {
-    let mut items = Vec::new(alloc);
-    put_lines(&mut items, START)?;
-    Some(items)
-}
-
-// Whether the items are a history that is legal.
-fn is_legal(alloc: Global, version: Version, items: Vec<Item>) -> Option<bool> {
-    let history = History::new(version, items).ok()?;
-    legal(alloc, &history).ok()
-}
-
 // Whether a history may go on and end with these lines.
 fn may_end(alloc: Global, then: &str, last: &str) -> Option<bool> {
-    let mut items = begins(alloc)?;
+    let mut items = Vec::new(alloc);
+    put_lines(&mut items, START)?;
     put_lines(&mut items, then)?;
     put_lines(&mut items, last)?;
-    is_legal(alloc, Version::Second, items)
+    legal(alloc, &History::new(Version::Second, items).ok()?).ok()
 }
 
 // The same, asked again where a request for memory is refused.
@@ -188,109 +160,4 @@ fn first_wrong(alloc: Global, text: &str) -> Option<&str> {
 fn allows_what_one_machine_may_answer(rt: HostRuntime) {
     let wrong = first_wrong(rt.alloc(), ENDS);
     assert!(rt; wrong.is_none(), "{wrong:?}");
-}
-
-/// A call at that place that is answered so.
-pub(crate) fn answered(position: u32, pid: u16, op: Op, reply: Reply) -> Item {
-    Item::Answered {
-        position,
-        id: CallId {
-            node: 1,
-            incarnation: 1,
-            number: 1,
-        },
-        pid,
-        op,
-        reply,
-    }
-}
-
-// One more call of a process.
-fn put_call(items: &mut Vec<Item>, pid: u16, op: Op, reply: Reply) -> Option<()> {
-    let item = answered(next_place(items)?, pid, op, reply);
-    put(items, item)
-}
-
-// A node is gone, which changes nothing: the first process then gets that descriptor, its next one.
-fn put_gone(items: &mut Vec<Item>, node: u8, fd: u8) -> Option<()> {
-    let item = Item::Gone {
-        position: next_place(items)?,
-        node,
-        incarnation: 1,
-    };
-    put(items, item)?;
-    put_call(
-        items,
-        1,
-        Op::Process(ProcessCall::Dup { fd: 0 }),
-        Reply::Fd(fd),
-    )
-}
-
-// Whether that call may be done.
-fn may_be_done(alloc: Global, pid: u16, op: Op) -> Option<bool> {
-    let mut items = begins(alloc)?;
-    put_call(&mut items, pid, op, Reply::Done)?;
-    is_legal(alloc, Version::Second, items)
-}
-
-// Whether nodes may be gone that there are not.
-fn may_go(alloc: Global) -> Option<bool> {
-    let mut items = begins(alloc)?;
-    put_gone(&mut items, 0, 2)?;
-    put_gone(&mut items, 65, 3)?;
-    is_legal(alloc, Version::Second, items)
-}
-
-// Whether there are no processes but 1 to 256, and no nodes but 1 to 64.
-fn lacks_strangers(alloc: Global) -> bool {
-    may_be_done(alloc, 0, Op::Process(ProcessCall::Spawn)) == Some(false)
-        && may_be_done(alloc, 257, Op::Process(ProcessCall::Spawn)) == Some(false)
-        && may_be_done(alloc, 2, Op::Process(ProcessCall::Fork { child: 0 })) == Some(false)
-        && may_be_done(alloc, 2, Op::Process(ProcessCall::Fork { child: 257 })) == Some(false)
-        && may_go(alloc) == Some(true)
-}
-
-#[test]
-fn allows_no_strangers(rt: HostRuntime) {
-    let lacks_strangers = lacks_strangers(rt.alloc());
-    assert!(rt; lacks_strangers);
-}
-
-// A read lock of one byte, with one free byte between it and that of the next place.
-fn byte_at(place: u16) -> Op {
-    Op::Lock(LockCall {
-        command: LockCommand::Set,
-        fd: 0,
-        kind: Kind::OfProcess,
-        mode: Mode::Read,
-        start: 100 + 2 * place as i64,
-        len: 1,
-    })
-}
-
-// Whether that may be in a cluster of the version: the second process locks so many bytes, and is then refused one more.
-fn may_be_full(alloc: Global, version: Version, count: u16) -> Option<bool> {
-    let mut items = begins(alloc)?;
-    for place in 0..count {
-        put_call(&mut items, 2, byte_at(place), Reply::Done)?;
-    }
-    put_call(&mut items, 2, byte_at(count), Reply::NoLocks)?;
-    is_legal(alloc, version, items)
-}
-
-// Whether a history of nothing is legal, and the limit of each version is just where it is.
-fn has_limits(alloc: Global) -> bool {
-    is_legal(alloc, Version::Second, Vec::new(alloc)) == Some(true)
-        && may_be_full(alloc, Version::First, 1023) == Some(false)
-        && may_be_full(alloc, Version::First, 1024) == Some(true)
-        && may_be_full(alloc, Version::First, 1025) == Some(false)
-        && may_be_full(alloc, Version::Second, 1024) == Some(false)
-        && may_be_full(alloc, Version::Second, 16_384) == Some(true)
-}
-
-#[test]
-fn allows_as_many_regions_as_the_version_has(rt: HostRuntime) {
-    let has_limits = has_limits(rt.alloc());
-    assert!(rt; has_limits);
 }

@@ -2,18 +2,10 @@
 ghost use Rattle.std.specs.Prelude.{◌≡◌, IfSome};
 
 use crate::books::{BookWithSeats, open, position, put_first, stamped};
-use book::book::Book;
-use book::commit_error::CommitError;
-use book::seat::Seat;
-use book::stamp::Stamp;
-use book::trail_name::Name;
-use message_text::writing::push_message;
-use messages::event::{Event, ServerInput};
-use messages::refusal::Refused;
-use messages::shape::Shape;
-use messages::shared_message::SharedMessage;
-use messages::version::Version;
-use model::policy::Policy;
+use book::{Book, CommitError, Name, Seat, Stamp};
+use message_text::push_message;
+use messages::{Event, Refused, ServerInput, Shape, SharedMessage, Version};
+use model::Policy;
 use std::alloc::Global;
 use std::marker::Brand;
 use std::test::Fail;

@@ -3,17 +3,10 @@
 ghost use Rattle.std.specs.Prelude.{◌≡◌};
 
 use crate::books::{BookWithSeats, commits, open, position, put, put_first};
-use crate::journals::{actor_of, read};
-use book::book::Book;
-use book::new_trail::NewTrail;
-use book::seat::Seat;
-use book::trail_name::Name;
-use cluster_core::journal::comes_next;
-use cluster_core::world::World;
-use messages::actor::Actor;
-use messages::entry::Entry;
-use messages::event::{Event, MemberEvent};
-use messages::shape::Shape;
+use book::{Book, Name, NewTrail, Seat};
+use cluster_core::{World, comes_next};
+use journal_text::parse::parse;
+use messages::{Actor, Entry, Event, MemberEvent, Shape};
 use std::alloc::{AllocError, Global};
 use std::marker::Brand;
 use std::test::Fail;
@@ -122,6 +115,14 @@ entry 53 deliver taken 1 2 4 2.1.9
 end 53
 ";
 
+// The shape and the entries of the journal, which is read again where a request for memory is refused.
+fn read(alloc: Global, text: &str) -> Result<(Shape, Vec<Entry>), Fail> {
+    match parse(alloc, text) {
+        Ok(journal) => Ok(journal),
+        Err(_) => Ok(parse(alloc, text)?),
+    }
+}
+
 /// What takes the entries of a journal, one after the other.
 trait Taker {
     /// Whether the entry's event comes to the entry. No answer is a refused request for memory, where nothing has changed.
@@ -168,6 +169,15 @@ fn begins_again(alloc: Global, shape: Shape) -> Result<Box<World>, AllocError> {
 fn world_takes(alloc: Global, shape: Shape, entries: &[Entry]) -> Result<bool, AllocError> {
     let mut world = begins_again(alloc, shape)?;
     Ok(takes_all(alloc, &mut *world, entries))
+}
+
+// The actor that takes the event, if one does, where there is one file.
+fn actor_of(event: &Event) -> Actor {
+    match event {
+        Event::AtNode(node, _) => Actor::Node(*node),
+        Event::Deliver(message) => message.get().addressee(),
+        _ => Actor::Server(1),
+    }
 }
 
 // The actor's seat.

@@ -1,14 +1,10 @@
 //! A cluster on threads, in which a node is declared failed while its process waits for a lock.
 use crate::clusters::{Caller, Lent, begin, clients, runs_fairly, set};
-use actors::call_error::CallError;
-use actors::gate::OpenGate;
-use book::confirms::Confirms;
-use book::receipt::Receipt;
-use cluster_core::journal::Journal;
-use messages::event::{Event, NodeInput};
-use model::mode::Mode;
-use model::op::{LockCall, LockCommand, Op, ProcessCall};
-use model::owner::Kind;
+use actors::{CallError, OpenGate};
+use book::{Confirms, Receipt};
+use cluster_core::Journal;
+use messages::{Event, NodeInput};
+use model::{Kind, LockCall, LockCommand, Mode, Op, ProcessCall};
 use std::sync::Wait;
 use std::test::Fail;
 use std::thread;

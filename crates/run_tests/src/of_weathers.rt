@@ -1,15 +1,9 @@
-//! Clusters on threads under weathers of tests, and the weather of a seed.
+//! Clusters on threads under weathers of tests.
 use crate::clusters::{Lent, begin, holds_all, in_time, lock, runs_right};
-use actors::gate::OpenGate;
-use actors::seeded::Seeded;
-use actors::weather::{Fate, Weather};
-use book::confirms::Confirms;
-use book::receipt::Receipt;
-use messages::file_number::FileNumber;
-use messages::message::Message;
-use model::host::Host;
-use model::mode::Mode;
-use model::reply::Reply;
+use actors::{Fate, OpenGate, Weather};
+use book::{Confirms, Receipt};
+use messages::Message;
+use model::{Mode, Reply};
 use std::mem;
 use std::sync::Wait;
 use std::sync::atomic::{AtomicU64, Ordering};
@@ -142,38 +136,4 @@ fn messages_that_are_held_back_come_in_time(rt: HostRuntime) -> Result<(), Fail>
     )?;
     assert!(rt; is_right);
     Ok(())
-}
-
-// Whether this becomes of the message at that place, from 0, of the fourth actor, where the seed is 3: as the generator's words were
-// worked out apart from the program.
-fn is_wanted(place: u8, fate: Fate) -> bool {
-    let wanted = match place {
-        7 | 12 | 17 => Fate::Drop,
-        8 | 11 => Fate::Hold(4),
-        18 => Fate::Twice,
-        _ => Fate::Pass,
-    };
-    fate == wanted
-}
-
-// Whether that becomes of one message at each of the places.
-fn are_wanted(weather: &mut Seeded, message: &Message) -> bool {
-    for place in 0..19 {
-        if !is_wanted(place, weather.fate(message)) {
-            return false;
-        }
-    }
-    true
-}
-
-#[test]
-fn a_seed_says_what_becomes_of_each_message(rt: HostRuntime) {
-    let message = Message::Freed {
-        file: FileNumber::of(1),
-        holder: Host {
-            node: 1,
-            incarnation: 1,
-        },
-    };
-    assert!(rt; are_wanted(&mut Seeded::new(3, 4), &message));
 }

@@ -1,18 +1,35 @@
 -- What the words of a command line come to.
-use Rattle.std.proofs.Common.{refl, ap, sym, inl, inr, true, ◌≡◌, ◌∙◌, List, Option, None, Some, option_map, IfSome}
+use Rattle.std.proofs.Common.{◌≡◌, Bor, List, Option, Some, None, IfSome, map, option_map, codes, sym, ap, ◌∙◌, ℕ, refl, inl, inr, true}
+use Rattle.clap.specs.declared.parser.matches.Found.{Found}
+use Rattle.clap.specs.Words.{first_value, matched_of, raw_values, App, HasKind, Row, Text, fault_of, is_simple, is_simple_and_free, kind_of, rows_of, with_subcommand}
+use Rattle.seat_commands.specs.declared.lines.Asked.{Asked}
+use Rattle.seat_commands.specs.declared.lines.Asked.TheVariants.{Seat, Members, Merge, Play}
+use Rattle.seat_commands.specs.rule.Asking.{IsNamed, IsKindOf, IsMet, IsRefusal, name_of, HasLogs, IsServedAsked}
 use Rattle.clap.proofs.OnLiterals.{clap_on_literals}
-use Rattle.clap.specs.Words.{App, HasKind, Row, Text, fault_of, is_simple, is_simple_and_free, kind_of, rows_of, with_subcommand}
 use Rattle.clap.specs.declared.error.Error.{Error}
 use Rattle.clap.specs.declared.error.kind.ErrorKind.{ErrorKind}
 use Rattle.clap.specs.declared.error.kind.ErrorKind.TheVariants.{OutOfMemory}
-use Rattle.clap.specs.declared.parser.matches.Found.{Found}
 use Rattle.command_line.specs.declared.refusal.Refusal.{Refusal}
 use Rattle.command_line.specs.declared.refusal.Refusal.TheVariants.{Help, Wrong, NotText, NoMemory}
-use Rattle.command_line.specs.rule.Kinds.{IsOfKind}
-use Rattle.command_line.specs.rule.Words.{IsShown}
-use Rattle.seat_commands.specs.declared.words.Asked.{Asked}
-use Rattle.seat_commands.specs.rule.Asking.{IsKindOf, IsMet, IsNamed, IsRefusal, name_of}
+use Rattle.command_line.specs.rule.Words.{IsOfKind, IsShown}
 use Rattle.seat_commands.specs.rule.Table.{Choice, IsTable, bare_app, chosen, kind_rule, members_app, merge_app, play_app, policy_rule, seat_app}
+
+-- the text that a getter gives
+pub has_text : (f : Found) (id : List ℕ) (r : Option (Bor (List ℕ))) → option_map (λ s. s.now) r ≡ first_value f id → IfSome r (λ text. first_value f id ≡ Some text.now)
+has_text f id None e = tt
+has_text f id (Some text) e = sym e
+
+-- the logs that a getter gives
+pub has_logs : (f : Found) (r : Option (Bor (List (Bor (List ℕ))))) (texts : Bor (List (Bor (List ℕ)))) → option_map (λ s. map (λ v. v.now) s.now) r ≡ option_map raw_values (matched_of f (codes "LOG")) → r ≡ Some texts
+    → HasLogs f (map (λ v. v.now) texts.now)
+has_logs f r texts e is = sym e ∙ ap (option_map (λ (s : Bor (List (Bor (List ℕ)))). map (λ (v : Bor (List ℕ)). v.now) s.now)) is
+
+-- what is asked can be done
+pub served : (name : List ℕ) (f : Found) (asked : Asked) → IsNamed name f asked → IsServedAsked asked
+served name f (Seat line) is = is.1.inside
+served name f (Members line) is = tt
+served name f (Merge line) is = tt
+served name f Play is = tt
 
 -- the table, where the words of two of its arguments lie so in memory
 abbrev table_of : Choice → Choice → App

@@ -1,3 +1,5 @@
 pub mod Asking
-pub mod Getters
-pub mod Keeping
+pub mod Having
+pub mod Readings
+pub mod Registers
+pub mod Talks

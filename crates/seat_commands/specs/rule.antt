@@ -1,7 +1,9 @@
 pub mod Asking
+pub mod Changes
+pub mod Clocks
 pub mod Doings
-pub mod Keeping
-pub mod Lines
-pub mod Names
-pub mod Statuses
+pub mod ListFiles
+pub mod Merging
+pub mod Registers
+pub mod SeatTalks
 pub mod Table

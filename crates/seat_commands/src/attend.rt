@@ -1,37 +1,23 @@
 //! The commands as functions of their words.
-ghost use Rattle.std.specs.Prelude.{◌≡◌, ◌⊎◌, ℕ, List, Option, IfOk, IfSome, None, OnErr, map, option_map, is_some, slice_get};
+ghost use Rattle.std.specs.Prelude.{◌≡◌, IfOk, IfSome, None, OnErr, map, option_map, is_some, slice_get};
 ghost use Rattle.std.specs.Io.Buffered.{reader_remaining};
-ghost use Rattle.talks.specs.declared.talk.TalkEnd.TheVariants.{NoMemory};
-ghost use Rattle.replay.specs.rule.Statuses.{status_of};
-ghost use Rattle.seat_keeping.specs.rule.SeatTalks.{IsIn, TalksFor};
-ghost use Rattle.line_play.specs.rule.Playing.{PlaysLines};
-ghost use Rattle.seat_commands.specs.rule.Doings.{Attends, DoesSo};
-ghost use Rattle.seat_commands.specs.rule.Keeping.{HasSeat, KeepsList};
-ghost use Rattle.seat_commands.specs.rule.Lines.{IsServedAsked};
-ghost use Rattle.seat_commands.specs.rule.Names.{is_help, is_help_if, is_name, is_name_if, is_of_command};
-ghost use Rattle.seat_commands.specs.rule.Statuses.{end_status, play_status};
+ghost use Rattle.seat_commands.specs.rule.Asking.{IsServedAsked, is_help_if, is_name_if, is_of_command};
+ghost use Rattle.seat_commands.specs.rule.Doings.{Attends, DoesSo, HasSeat, end_status, play_status};
+ghost use Rattle.seat_commands.specs.rule.SeatTalks.{IsIn};
 
-use crate::actor_line::ActorLine;
-use crate::added_file::open_added;
-use crate::members_command::{ListFault, keep_members};
-use crate::members_line::MembersLine;
-use crate::words::{Asked, asked_by};
+use crate::merge_command::merge_command;
+use crate::{ActorLine, Asked, asked_by, have_seat, keep_members, open_added, told};
+use command_line::refusal::Refusal;
 use line_play::answering::{PlayEnd, play_lines};
 use line_play::stop::Stop;
-use merging::merge_command::merge_command;
-use replay::fault::Fault;
-use replay::output::Output;
-use replay::respond::refuse;
-use replay::store::Store;
-use seat_keeping::appointment::Appointment;
-use seat_keeping::seat::have_seat;
-use std::alloc::{AllocError, Global};
+use replay::{Fault, Output, Store, refuse};
+use seat_text::TalkEnd;
+use std::alloc::Global;
 use std::convert::AsStr;
 use std::io;
 use std::io::{BufReader, Read, Write};
 use std::rt::Files;
 use std::time::Clock;
-use talks::talk::TalkEnd;
 
 /// Does what the words ask for, the first of them being the program's name, where the second is `seat`, `members`,
 /// `merge` or `play`, or `help` before one of these, and answers the exit status; else it does nothing.
@@ -58,192 +44,107 @@ pub fn attend<R: Files + Clock, W: AsStr, I: Read + Drop, S: Store, O: Write, E:
     if !is_here(words) {
         return None;
     }
-    match asked_by(alloc, words) {
-        Ok(line) => Some(done(rt, alloc, &line, input, store, out, err)),
-        Err(refusal) => Some(refuse(&refusal, out, err)),
-    }
+    let line = match asked_by(alloc, words) {
+        Ok(line) => line,
+        Err(refusal) => return Some(refuse(&refusal, out, err)),
+    };
+    let Ok(mut reader) = buffered(alloc, input) else {
+        return Some(refuse(&Refusal::NoMemory, out, err));
+    };
+    Some(done(rt, alloc, &line, &mut reader, store, out, err))
+}
+
+// The input, of which more is read at once than is asked for.
+fn buffered<I: Read + Drop>(alloc: Global, input: I) -> io::Result<BufReader<I>>
+    ensures { IfOk result (λ reader. reader_remaining I.remaining reader ≡ I.remaining input) }
+{
+    BufReader::new(alloc, input)
 }
 
 // Whether the words are of a command that stands here, or ask for its help.
 fn is_here<W: AsStr>(words: &[W]) -> bool
     ensures { result ≡ is_of_command (option_map W.text (slice_get words.now 1)) (option_map W.text (slice_get words.now 2)) }
 {
-    names_command(words, 1) || (asks_for_help(words) && names_command(words, 2))
+    let first = word_at(words, 1);
+    is_name(first) || (is_help(first) && is_name(word_at(words, 2)))
+}
+
+// The word of this place, if there is one.
+fn word_at<W: AsStr>(words: &[W], place: usize) -> Option<&str>
+    ensures { option_map (λ word. word.now) result ≡ option_map W.text (slice_get words.now place) }
+{
+    match words.get(place) {
+        Some(word) => Some(word.as_str()),
+        None => None,
+    }
 }
 
 // Whether a command that stands here has the name that is this word.
-fn names_command<W: AsStr>(words: &[W], place: usize) -> bool
-    ensures { result ≡ is_name_if (option_map W.text (slice_get words.now place)) }
+fn is_name(word: Option<&str>) -> bool
+    ensures { result ≡ is_name_if (option_map (λ word. word.now) word.entry) }
 {
-    match words.get(place) {
-        Some(word) => is_name(word.as_str()),
-        None => false,
-    }
+    matches!(word, Some("seat" | "members" | "merge" | "play"))
 }
 
-// Whether the words ask for the help of a command.
-fn asks_for_help<W: AsStr>(words: &[W]) -> bool
-    ensures { result ≡ is_help_if (option_map W.text (slice_get words.now 1)) }
+// Whether the word asks for the help of a command.
+fn is_help(word: Option<&str>) -> bool
+    ensures { result ≡ is_help_if (option_map (λ word. word.now) word.entry) }
 {
-    match words.get(1) {
-        Some(word) => is_help(word.as_str()),
-        None => false,
-    }
-}
-
-fn is_help(word: &str) -> bool
-    ensures { result ≡ is_help word.now }
-{
-    matches!(word, "help")
-}
-
-// Whether a command that stands here has the name.
-fn is_name(word: &str) -> bool
-    ensures { result ≡ is_name word.now }
-{
-    matches!(word, "seat" | "members" | "merge" | "play")
+    matches!(word, Some("help"))
 }
 
 // Does what is asked, and answers the exit status.
-fn done<R: Files + Clock, I: Read + Drop, S: Store, O: Write, E: Write>(
+fn done<R: Files + Clock, I: Read, S: Store, O: Write, E: Write>(
     rt: &R,
     alloc: Global,
     line: &Asked<'_>,
-    input: I,
+    reader: &mut I,
     store: &mut S,
     out: &mut O,
     err: &mut E,
 ) -> u8
     requires { IsServedAsked line.now }
     ensures { DoesSo R.File.contents R.File.remaining (S.holds store.old) (S.holds store.new)
-        (I.remaining input) (O.contents out.old) (O.contents out.new) line.now result }
+        (I.remaining reader.old) (O.contents out.old) (O.contents out.new) line.now result }
 {
     match line {
-        Asked::Seat(line) => match seated_by(rt, alloc, line, input, store, out) {
+        Asked::Seat(line) => match seated(rt, alloc, line, reader, store, out) {
             Ok(end) => told_end(end, line.log, err),
-            Err(fault) => told(&fault.fault(alloc, line.log.unwrap_or("")), err),
+            Err(fault) => told(&fault, err),
         },
-        Asked::Members(line) => match kept_by(rt, alloc, line, input, store, out) {
+        Asked::Members(line) => match keep_members(rt, alloc, line, reader, store, out) {
             Ok(end) => told_end(end, None, err),
-            Err(fault) => told(&fault.fault(alloc, line.state), err),
+            Err(fault) => told(&fault, err),
         },
         Asked::Merge(line) => merge_command(alloc, store, line, out, err),
-        Asked::Play => match played_by(alloc, input, out) {
-            Ok(end) => told_play(end, err),
-            Err(_) => told(&Fault::NoMemory, err),
-        },
+        Asked::Play => told_play(play_lines(alloc, reader, out), err),
     }
-}
-
-// The input, of which more is read at once than is asked for.
-fn buffered<I: Read + Drop>(alloc: Global, input: I) -> Result<BufReader<I>, AllocError>
-    ensures { IfOk result (λ reader. reader_remaining I.remaining reader ≡ I.remaining input) }
-{
-    match BufReader::new(alloc, input) {
-        Ok(reader) => Ok(reader),
-        Err(_) => Err(AllocError),
-    }
-}
-
-// Keeps the list of the line, as the input asks.
-fn kept_by<R: Files + Clock, I: Read + Drop, S: Store, O: Write>(
-    rt: &R,
-    alloc: Global,
-    line: &MembersLine<'_>,
-    input: I,
-    store: &mut S,
-    out: &mut O,
-) -> Result<TalkEnd, ListFault>
-    ensures kept { IfOk result (λ end. (left : Option (List ℕ)) × KeepsList R.File.contents R.File.remaining line.now end (I.remaining input) left
-        (O.contents out.old) (O.contents out.new)) }
-    ensures failed { OnErr result ((out.new ≡ out.old) ⊎ ((left : Option (List ℕ)) × KeepsList R.File.contents R.File.remaining line.now NoMemory
-        (I.remaining input) left (O.contents out.old) (O.contents out.new))) }
-{
-    let mut reader = buffered(alloc, input)?;
-    keep_members(rt, alloc, line, &mut reader, store, out)
-}
-
-// Has the seat of the line's actor, as the input tells it.
-fn seated_by<R: Files + Clock, I: Read + Drop, S: Store, O: Write>(
-    rt: &R,
-    alloc: Global,
-    line: &ActorLine<'_>,
-    input: I,
-    store: &mut S,
-    out: &mut O,
-) -> Result<TalkEnd, ListFault>
-    requires { IsIn line.now.appointment.shape line.now.appointment.actor }
-    ensures talks { IfOk result (λ end. (left : Option (List ℕ)) × HasSeat R.File.contents line.now end (I.remaining input) left
-        (O.contents out.old) (O.contents out.new)) }
-    ensures untouched { OnErr result (out.new ≡ out.old) }
-{
-    let mut reader = buffered(alloc, input)?;
-    seated(rt, alloc, line, &mut reader, store, out)
 }
 
 // Has the seat of the line's actor, with its log.
-fn seated<R: Files + Clock, I: Read, S: Store, O: Write>(
+fn seated<'a, R: Files + Clock, I: Read, S: Store, O: Write>(
     rt: &R,
     alloc: Global,
-    line: &ActorLine<'_>,
+    line: &ActorLine<'a>,
     reader: &mut I,
     store: &mut S,
     out: &mut O,
-) -> Result<TalkEnd, ListFault>
-    requires { IsIn line.now.appointment.shape line.now.appointment.actor }
+) -> Result<TalkEnd, Fault<'a>>
+    requires { IsIn line.now.shape line.now.actor }
     ensures talks { IfOk result (λ end. HasSeat R.File.contents line.now end (I.remaining reader.old) (I.remaining reader.new)
         (O.contents out.old) (O.contents out.new)) }
     ensures untouched { OnErr result ((reader.new ≡ reader.old) × (out.new ≡ out.old)) }
 {
     match line.log {
         Some(path) => {
-            let log = open_added(rt, store, path)?;
-            logged(rt, alloc, &line.appointment, reader, log, out)
+            let mut log = open_added(rt, store, path)?;
+            Ok(have_seat(rt, alloc, line, reader, &mut log, out)?)
         }
-        None => logged(rt, alloc, &line.appointment, reader, io::sink(), out),
+        None => {
+            let mut log = io::sink();
+            Ok(have_seat(rt, alloc, line, reader, &mut log, out)?)
+        }
     }
-}
-
-// Has the seat, with this log.
-fn logged<R: Clock, I: Read, L: Write + Drop, O: Write>(
-    rt: &R,
-    alloc: Global,
-    appointment: &Appointment,
-    reader: &mut I,
-    log: L,
-    out: &mut O,
-) -> Result<TalkEnd, ListFault>
-    requires { IsIn appointment.now.shape appointment.now.actor }
-    ensures talks { IfOk result (λ end. (after : L) × TalksFor appointment.now appointment.now.actor end (I.remaining reader.old) (I.remaining reader.new)
-        (L.contents log) (L.contents after) (O.contents out.old) (O.contents out.new)) }
-    ensures untouched { OnErr result ((reader.new ≡ reader.old) × (out.new ≡ out.old)) }
-{
-    let mut log = log;
-    match have_seat(rt, alloc, appointment, reader, &mut log, out) {
-        Ok(end) => Ok(end),
-        Err(_) => Err(ListFault::NoMemory),
-    }
-}
-
-// Plays the lines that are read of the input.
-fn played_by<I: Read + Drop, O: Write>(
-    alloc: Global,
-    input: I,
-    out: &mut O,
-) -> Result<PlayEnd, AllocError>
-    ensures plays { IfOk result (λ end. (left : Option (List ℕ)) × PlaysLines end (I.remaining input) left (O.contents out.old) (O.contents out.new)) }
-    ensures untouched { OnErr result (out.new ≡ out.old) }
-{
-    let mut reader = buffered(alloc, input)?;
-    Ok(play_lines(alloc, &mut reader, out))
-}
-
-// Writes why a command was not done, and answers its exit status.
-fn told<E: Output>(fault: &Fault<'_>, err: &mut E) -> u8
-    ensures { result ≡ status_of fault.now }
-{
-    let _ = fault.write_reasoned(err);
-    fault.status()
 }
 
 // Writes why a talk ended, unless that is the end of the input, and answers the exit status. Its log has this path.

@@ -1,79 +1,45 @@
 //! Keeping the list of declarations and starts.
 ghost use Rattle.std.specs.Prelude.{◌≡◌, ◌≤◌, ◌⊎◌, if◌then◌else◌, Some, None, IfOk, IfSome, OnErr};
 ghost use Rattle.std.specs.Io.KnownBytes.{Appends};
-ghost use Rattle.talks.specs.declared.talk.TalkEnd.TheVariants.{NoMemory};
-ghost use Rattle.seat_keeping.specs.rule.Changes.{list_head};
-ghost use Rattle.seat_keeping.specs.rule.Clocks.{greatest_moment};
-ghost use Rattle.replay.specs.rule.Statuses.{status_of};
-ghost use Rattle.seat_commands.specs.rule.Keeping.{KeepsList, TakesUp};
-ghost use Rattle.seat_commands.specs.rule.Statuses.{IsFaultStatus};
+ghost use Rattle.seat_commands.specs.rule.Changes.{list_head};
+ghost use Rattle.seat_commands.specs.rule.Clocks.{greatest_moment};
+ghost use Rattle.seat_commands.specs.rule.Doings.{KeepsList, TakesUp};
+ghost use Rattle.seat_text.specs.declared.talk.TalkEnd.TheVariants.{NoMemory};
 
-use crate::added_file::{open_added, why_not};
-use crate::members_line::MembersLine;
-use replay::fault::Fault;
-use replay::file_reason::FileReason;
-use replay::store::{Store, StoreError};
-use seat_keeping::keeper::{Keeper, SyncedFile};
-use seat_keeping::list_text::push_list_head;
-use seat_keeping::read_back::{ReadBack, UnreadList, read_back};
-use seat_keeping::register::Register;
-use seat_keeping::stopwatch::Stopwatch;
-use std::alloc::{AllocError, Global};
-use std::fs::OpenFile;
+use crate::read_back::{ReadBack, read_back};
+use crate::{MembersLine, Register, Stopwatch, keep, push_list_head};
+use replay::{Fault, FileReason, Store, StoreError};
+use seat_text::talk::{TalkEnd, talk};
+use std::alloc::Global;
+use std::fs::{OpenFile, OpenOptions};
 use std::io;
 use std::io::{ErrorKind, Read, Write};
 use std::rt::Files;
 use std::time::Clock;
-use talks::talk::{TalkEnd, talk};
 
-/// Why a list was not kept.
-#[derive(Clone, Copy)]
-pub(crate) enum ListFault {
-    /// Its file can't be read.
-    CannotRead,
-    /// Its file can't be written, for this reason.
-    CannotWrite(FileReason),
-    /// The line of this number, from 1, may not stand in its file.
-    BadLine(usize),
-    /// A request for memory was refused.
-    NoMemory,
-}
-
-impl ListFault {
-    /// The fault, where the file has this path.
-    pub(crate) fn fault<'a>(self, alloc: Global, path: &'a str) -> Fault<'a>
-        ensures { IsFaultStatus (status_of result) }
-    {
-        match self {
-            ListFault::CannotRead => Fault::CannotRead(path, FileReason::Refused),
-            ListFault::CannotWrite(reason) => Fault::CannotWrite(path, reason),
-            ListFault::BadLine(number) => bad_line(alloc, path, number),
-            ListFault::NoMemory => Fault::NoMemory,
-        }
+/// Opens the file, to be read and to be written behind what it has. It is made where there is none.
+///
+/// # Errors
+/// Where that fails: why no file can be put there, as the store says.
+pub(crate) fn open_added<'a, R: Files, S: Store>(
+    rt: &R,
+    store: &mut S,
+    path: &'a str,
+) -> Result<R::File, Fault<'a>> {
+    let mut how = OpenOptions::new();
+    how.read(true).append(true).create(true);
+    match how.open(rt, path) {
+        Ok(file) => Ok(file),
+        Err(_) => Err(why_not(store, path)),
     }
 }
 
-impl From<AllocError> for ListFault {
-    fn from(_error: AllocError) -> ListFault {
-        ListFault::NoMemory
-    }
-}
-
-impl From<StoreError> for ListFault {
-    fn from(error: StoreError) -> ListFault {
-        match error {
-            StoreError::NoMemory => ListFault::NoMemory,
-            StoreError::Failed(reason) => ListFault::CannotWrite(reason),
-        }
-    }
-}
-
-impl From<UnreadList> for ListFault {
-    fn from(error: UnreadList) -> ListFault {
-        match error {
-            UnreadList::NoMemory => ListFault::NoMemory,
-            UnreadList::BadLine(number) => ListFault::BadLine(number),
-        }
+// Why a file can't be written.
+fn why_not<'a, S: Store>(store: &mut S, path: &'a str) -> Fault<'a> {
+    match store.try_write(path) {
+        Ok(()) => Fault::CannotWrite(path, FileReason::Refused),
+        Err(StoreError::Failed(reason)) => Fault::CannotWrite(path, reason),
+        Err(StoreError::NoMemory) => Fault::NoMemory,
     }
 }
 
@@ -82,14 +48,14 @@ impl From<UnreadList> for ListFault {
 /// # Errors
 /// Where the file can't be read or written, or has a bad line, and where a request for memory was refused, before any line was
 /// read; or where a block could not be kept in the file, which is not answered.
-pub(crate) fn keep_members<R: Files + Clock, I: Read, S: Store, O: Write>(
+pub(crate) fn keep_members<'a, R: Files + Clock, I: Read, S: Store, O: Write>(
     rt: &R,
     alloc: Global,
-    line: &MembersLine<'_>,
+    line: &MembersLine<'a>,
     reader: &mut I,
     store: &mut S,
     out: &mut O,
-) -> Result<TalkEnd, ListFault>
+) -> Result<TalkEnd, Fault<'a>>
     ensures kept { IfOk result (λ end. KeepsList R.File.contents R.File.remaining line.now end (I.remaining reader.old) (I.remaining reader.new)
         (O.contents out.old) (O.contents out.new)) }
     ensures failed { OnErr result (((reader.new ≡ reader.old) × (out.new ≡ out.old))
@@ -99,11 +65,11 @@ pub(crate) fn keep_members<R: Files + Clock, I: Read, S: Store, O: Write>(
     let file = open_added(rt, store, line.state)?;
     let (file, read) = taken_up(alloc, line, file)?;
     let watch = watch_of(rt, line, read.last);
-    let mut register = Register::new(alloc, read.list, watch, SyncedFile::new(file));
+    let mut register = Register::new(alloc, read.list, watch, file);
     let mut log = io::sink();
     let end = talk(alloc, &mut register, reader, &mut log, out);
     if end == TalkEnd::NoMemory && register.has_failed() {
-        return Err(ListFault::from(why_not(store, line.state)));
+        return Err(why_not(store, line.state));
     }
     Ok(end)
 }
@@ -125,19 +91,19 @@ fn watch_of<'a, C: Clock>(
 }
 
 // The file as its list goes on, and the list that it has: a block that is not whole is cut off.
-fn taken_up<F: Read + Write + OpenFile + Drop>(
+fn taken_up<'a, F: Read + Write + OpenFile + Drop>(
     alloc: Global,
-    line: &MembersLine<'_>,
+    line: &MembersLine<'a>,
     file: F,
-) -> Result<(F, ReadBack), ListFault>
+) -> Result<(F, ReadBack), Fault<'a>>
     ensures taken { IfOk result (λ taken. TakesUp F.contents F.remaining line.now file taken.0 taken.1) }
     ensures within { IfOk result (λ taken. taken.1.last ≤ greatest_moment) }
 {
     let mut file = file;
-    let bytes = all_of(alloc, &mut file)?;
-    let read = read_back(alloc, line.shape, bytes.as_slice())?;
+    let bytes = all_of(alloc, line.state, &mut file)?;
+    let read = read_back(alloc, line, bytes.as_slice())?;
     if read.whole < bytes.len() && file.set_len(read.whole as u64).is_err() {
-        return Err(ListFault::CannotWrite(FileReason::Refused));
+        return Err(Fault::CannotWrite(line.state, FileReason::Refused));
     }
     if read.whole == 0 {
         return Ok((begun(alloc, line, file)?, read));
@@ -146,40 +112,30 @@ fn taken_up<F: Read + Write + OpenFile + Drop>(
 }
 
 // The file with the block with which a list begins.
-fn begun<F: Write + OpenFile + Drop>(
+fn begun<'a, F: Write + OpenFile + Drop>(
     alloc: Global,
-    line: &MembersLine<'_>,
+    line: &MembersLine<'a>,
     file: F,
-) -> Result<F, ListFault>
+) -> Result<F, Fault<'a>>
     ensures { IfOk result (λ begun. Appends (F.contents file) (F.contents begun) (list_head line.now.shape)) }
 {
     let mut head = String::new(alloc);
     push_list_head(&mut head, &line.shape)?;
-    let mut keeper = SyncedFile::new(file);
-    match keeper.keep(head.as_bytes()) {
-        Ok(()) => Ok(keeper.into_file()),
-        Err(_) => Err(ListFault::CannotWrite(FileReason::Refused)),
+    let mut file = file;
+    match keep(&mut file, head.as_bytes()) {
+        Ok(()) => Ok(file),
+        Err(_) => Err(Fault::CannotWrite(line.state, FileReason::Refused)),
     }
 }
 
-// All that the file has.
-fn all_of<F: Read>(alloc: Global, file: &mut F) -> Result<Vec<u8>, ListFault>
+// All that the file of this path has.
+fn all_of<'a, F: Read>(alloc: Global, path: &'a str, file: &mut F) -> Result<Vec<u8>, Fault<'a>>
     ensures { IfOk result (λ bytes. IfSome (F.remaining file.old) (λ known. bytes.items ≡ known)) }
 {
     let mut bytes = Vec::new(alloc);
     match file.read_to_end(&mut bytes) {
         Ok(_) => Ok(bytes),
-        Err(error) if error.kind() == ErrorKind::OutOfMemory => Err(ListFault::NoMemory),
-        Err(_) => Err(ListFault::CannotRead),
-    }
-}
-
-// The line of this number may not stand there.
-fn bad_line<'a>(alloc: Global, path: &str, number: usize) -> Fault<'a>
-    ensures { IsFaultStatus (status_of result) }
-{
-    match format!(in alloc; "{path}: line {number}: it is not the next line of such a list\n") {
-        Ok(text) => Fault::Faulty(text),
-        Err(_) => Fault::NoMemory,
+        Err(error) if error.kind() == ErrorKind::OutOfMemory => Err(Fault::NoMemory),
+        Err(_) => Err(Fault::CannotRead(path, FileReason::Refused)),
     }
 }

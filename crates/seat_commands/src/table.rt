@@ -1,12 +1,12 @@
 //! The table of the commands.
-ghost use Rattle.std.specs.Prelude.{◌≡◌, codes, true, IfOk};
-ghost use Rattle.clap.specs.Words.{app_of, new_app, rule_of, with_rule, with_subcommand};
-ghost use Rattle.command_line.specs.rule.Program.{flag_rule, number_rule, option_rule, path_rule, paths_rule};
-ghost use Rattle.seat_commands.specs.rule.Table.{IsChosen, IsSeatApp, IsTable, bare_app, between, clock_rule, files_rule, kind_rule, kinds, members_app, merge_app, needed_rule, nodes_rule, number_argument_rule, past_rule, play_app, policies, policy_rule, skew_rule};
+ghost use Rattle.std.specs.Prelude.{◌≡◌, true, IfOk};
+ghost use Rattle.clap.specs.Words.{app_of, rule_of};
+ghost use Rattle.seat_commands.specs.rule.Table.{IsChosen, IsSeatApp, IsTable, bare_app, clock_rule, files_rule, kind_rule, kinds, members_app, merge_app, needed_rule, nodes_rule, number_argument_rule, play_app, policies, policy_rule};
 
 use crate::help::{MEMBERS_NOTES, MERGE_NOTES, PLAY_NOTES, SEAT_NOTES};
 use clap::builder::ValueParser;
 use clap::{Arg, ArgAction, Command};
+use command_line::table::{bare_command, flag, number, option, with_argument, with_command, word};
 use std::alloc::{AllocError, Global};
 
 // The kinds of actors.
@@ -15,11 +15,8 @@ const KINDS: &[&str] = &["node", "server"];
 // The policies.
 const POLICIES: &[&str] = &["wide", "exact"];
 
-// The most times that an actor begins again.
-const MOST_PAST: i64 = 65_534;
-
-// The greatest number of microseconds that a clock may differ by.
-const GREATEST_SKEW: i64 = i64::MAX;
+/// The most times that an actor begins again.
+pub(crate) const MOST_PAST: u32 = 65_534;
 
 /// The command line of the commands.
 pub(crate) fn program<'a>(alloc: Global) -> Result<Command<'a>, AllocError>
@@ -38,31 +35,6 @@ fn bare_program<'a>(alloc: Global) -> Command<'a>
     Command::new(alloc, "lockreplay").subcommand_required(true)
 }
 
-// The program with one command more.
-fn with_command<'a>(program: Command<'a>, command: Command<'a>) -> Result<Command<'a>, AllocError>
-    requires { (app_of command).top.is_plain ≡ true }
-    ensures { IfOk result (λ r. app_of r ≡ with_subcommand (app_of program.entry) (app_of command.entry).top) }
-{
-    program.subcommand(command)
-}
-
-// A command without arguments, with what its help says.
-fn bare_command<'a>(alloc: Global, name: &'a str, about: &'a str, notes: &'a str) -> Command<'a>
-    ensures { app_of result ≡ new_app name.entry.now }
-{
-    Command::new(alloc, name)
-        .about(about)
-        .after_long_help(notes)
-}
-
-// The command with one argument more.
-fn with_argument<'a>(command: Command<'a>, argument: Arg<'a>) -> Result<Command<'a>, AllocError>
-    requires { (rule_of argument).is_simple ≡ true }
-    ensures { IfOk result (λ r. app_of r ≡ with_rule (app_of command.entry) (rule_of argument.entry)) }
-{
-    command.arg(argument)
-}
-
 fn seat_command<'a>(alloc: Global) -> Result<Command<'a>, AllocError>
     ensures { IfOk result (λ command. IsSeatApp (app_of command)) }
 {
@@ -73,9 +45,11 @@ fn seat_command<'a>(alloc: Global) -> Result<Command<'a>, AllocError>
     let command = with_argument(command, nodes_argument(alloc))?;
     let command = with_argument(command, files_argument(alloc))?;
     let command = with_argument(command, policy_argument(alloc))?;
-    let again = flag(alloc, "again", "Work only once the actor begins again");
-    let command = with_argument(command, again)?;
-    let command = with_argument(command, past_argument(alloc))?;
+    let help = "Work only once the actor begins again";
+    let command = with_argument(command, flag(alloc, "again", help))?;
+    let help = "With --again: how many times it begins again before that";
+    let past = number(alloc, "TIMES", "past", help, 0, MOST_PAST).default_value("0");
+    let command = with_argument(command, past)?;
     let help = "Write each block to LOG first, behind what it has";
     let command = with_argument(command, option(alloc, "LOG", "log", help))?;
     with_argument(command, clock_argument(alloc))
@@ -88,8 +62,8 @@ fn members_command<'a>(alloc: Global) -> Result<Command<'a>, AllocError>
     let command = bare_command(alloc, "members", about, MEMBERS_NOTES);
     let command = with_argument(command, nodes_argument(alloc))?;
     let command = with_argument(command, files_argument(alloc))?;
-    let state = needed(alloc, "STATE", "state", "The file that has the list");
-    let command = with_argument(command, state)?;
+    let help = "The file that has the list";
+    let command = with_argument(command, needed(alloc, "STATE", "state", help))?;
     with_argument(command, clock_argument(alloc))
 }
 
@@ -98,14 +72,17 @@ fn merge_command<'a>(alloc: Global) -> Result<Command<'a>, AllocError>
 {
     let about = "Make one journal of the logs of seats";
     let command = bare_command(alloc, "merge", about, MERGE_NOTES);
-    let command = with_argument(command, logs_argument(alloc))?;
-    let journal = option(alloc, "JOURNAL", "journal", "Write the journal to JOURNAL");
-    let command = with_argument(command, journal)?;
+    let logs = word(alloc, "LOG", "The log of a seat: a file of blocks");
+    let command = with_argument(command, logs.action(ArgAction::Append))?;
+    let help = "Write the journal to JOURNAL";
+    let command = with_argument(command, option(alloc, "JOURNAL", "journal", help))?;
     let help = "The list of declarations and starts";
     let command = with_argument(command, option(alloc, "MEMBERS", "members", help))?;
-    let check = flag(alloc, "check", "Only tell whether there is a journal");
-    let command = with_argument(command, check)?;
-    with_argument(command, skew_argument(alloc))
+    let help = "Only tell whether there is a journal";
+    let command = with_argument(command, flag(alloc, "check", help))?;
+    let help = "By how many microseconds clocks may differ";
+    let skew = option(alloc, "N", "skew", help).default_value("0");
+    with_argument(command, skew.value_parser(ValueParser::signed(0, i64::MAX)))
 }
 
 fn play_command<'a>(alloc: Global) -> Command<'a>
@@ -115,71 +92,31 @@ fn play_command<'a>(alloc: Global) -> Command<'a>
     bare_command(alloc, "play", about, PLAY_NOTES)
 }
 
-fn logs_argument<'a>(alloc: Global) -> Arg<'a>
-    ensures { rule_of result ≡ paths_rule (codes "LOG") }
-{
-    Arg::new(alloc, "LOG")
-        .required(true)
-        .action(ArgAction::Append)
-        .help("The log of a seat: a file of blocks")
-}
-
-fn skew_argument<'a>(alloc: Global) -> Arg<'a>
-    ensures { rule_of result ≡ skew_rule }
-{
-    option(
-        alloc,
-        "N",
-        "skew",
-        "By how many microseconds clocks may differ",
-    )
-    .default_value("0")
-    .value_parser(ValueParser::signed(0, GREATEST_SKEW))
-}
-
-fn past_argument<'a>(alloc: Global) -> Arg<'a>
-    ensures { rule_of result ≡ past_rule }
-{
-    option(
-        alloc,
-        "TIMES",
-        "past",
-        "With --again: how many times it begins again before that",
-    )
-    .default_value("0")
-    .value_parser(ValueParser::signed(0, MOST_PAST))
-}
-
 fn kind_argument<'a>(alloc: Global) -> Arg<'a>
     ensures { IsChosen kind_rule kinds (rule_of result) }
 {
-    Arg::new(alloc, "KIND")
-        .required(true)
-        .value_parser(ValueParser::Names(KINDS))
-        .help("What the actor is")
+    word(alloc, "KIND", "What the actor is").value_parser(ValueParser::Names(KINDS))
 }
 
 fn number_argument<'a>(alloc: Global) -> Arg<'a>
     ensures { rule_of result ≡ number_argument_rule }
 {
-    Arg::new(alloc, "NUMBER")
-        .required(true)
-        .value_parser(ValueParser::signed(1, 256))
-        .help("The number of the node, or of the token server's file")
+    let help = "The number of the node, or of the token server's file";
+    word(alloc, "NUMBER", help).value_parser(ValueParser::signed(1, 256))
 }
 
 fn nodes_argument<'a>(alloc: Global) -> Arg<'a>
     ensures { rule_of result ≡ nodes_rule }
 {
     let help = "The nodes of the cluster, from 1 to 64";
-    needed(alloc, "NODES", "nodes", help).value_parser(ValueParser::signed(1, 64))
+    number(alloc, "NODES", "nodes", help, 1, 64).required(true)
 }
 
 fn files_argument<'a>(alloc: Global) -> Arg<'a>
     ensures { rule_of result ≡ files_rule }
 {
     let help = "The files of the cluster, from 1 to 256";
-    needed(alloc, "FILES", "files", help).value_parser(ValueParser::signed(1, 256))
+    number(alloc, "FILES", "files", help, 1, 256).required(true)
 }
 
 fn policy_argument<'a>(alloc: Global) -> Arg<'a>
@@ -192,11 +129,8 @@ fn policy_argument<'a>(alloc: Global) -> Arg<'a>
 fn clock_argument<'a>(alloc: Global) -> Arg<'a>
     ensures { rule_of result ≡ clock_rule }
 {
-    flag(
-        alloc,
-        "clock",
-        "Begin blocks with two readings of the clock",
-    )
+    let help = "Begin blocks with two readings of the clock";
+    flag(alloc, "clock", help)
 }
 
 // An option that must be there.
@@ -204,16 +138,4 @@ fn needed<'a>(alloc: Global, id: &'a str, long: &'a str, help: &'a str) -> Arg<'
     ensures { rule_of result ≡ needed_rule id.entry.now long.entry.now }
 {
     option(alloc, id, long, help).required(true)
-}
-
-fn option<'a>(alloc: Global, id: &'a str, long: &'a str, help: &'a str) -> Arg<'a>
-    ensures { rule_of result ≡ option_rule id.entry.now long.entry.now }
-{
-    Arg::new(alloc, id).long(long).help(help)
-}
-
-fn flag<'a>(alloc: Global, name: &'a str, help: &'a str) -> Arg<'a>
-    ensures { rule_of result ≡ flag_rule name.entry.now }
-{
-    option(alloc, name, name, help).action(ArgAction::SetTrue)
 }

@@ -1,49 +1,24 @@
 //! What the words of a command line ask for.
-ghost use Rattle.std.specs.Prelude.{◌≡◌, ◌≤◌, ◌⊎◌, codes, decimal, map, IfErr, IfOk, IfSome, Some};
-ghost use Rattle.clap.specs.Words.{app_of, first_value, found_of, kind_of, one_text, subcommand_rows_of};
-ghost use Rattle.clap.specs.declared.error.kind.ErrorKind.TheVariants.{OutOfMemory, ValueValidation};
-ghost use Rattle.texts.specs.rule.Words.{policy_text};
-ghost use Rattle.seat_keeping.specs.rule.SeatTalks.{IsIn};
-ghost use Rattle.seat_commands.specs.rule.Asking.{AsksFor, IsKindOf, IsMet, IsNamed, IsRefusal};
-ghost use Rattle.seat_commands.specs.rule.Lines.{HasActor, HasFlag, HasLogs, HasShape, IsServedAsked};
+ghost use Rattle.std.specs.Prelude.{◌≡◌, ◌≤◌, codes, decimal, map, IfErr, IfOk, IfSome, Some};
+ghost use Rattle.clap.specs.Words.{app_of, first_value, found_of, kind_of, subcommand_rows_of};
+ghost use Rattle.seat_commands.specs.rule.SeatTalks.{IsIn};
+ghost use Rattle.seat_commands.specs.rule.Asking.{AsksFor, HasActor, HasShape, IsKindOf, IsMet, IsNamed, IsRefusal, IsServedAsked};
 ghost use Rattle.seat_commands.specs.rule.Table.{IsTable};
 
-use crate::actor_line::ActorLine;
-use crate::members_line::MembersLine;
-use crate::table::program;
+use crate::{ActorLine, Asked, GREATEST_MOMENT, MOST_PAST, MembersLine, MergeLine, program};
 use clap::error::ErrorKind;
 use clap::{ArgMatches, Command, Error};
 use command_line::refusal::Refusal;
-use merging::merge_line::MergeLine;
-use messages::actor::Actor;
-use messages::shape::Shape;
-use model::policy::Policy;
-use seat_keeping::appointment::Appointment;
+use messages::{Actor, Shape};
+use model::Policy;
 use std::alloc::{AllocError, Global};
 use std::convert::AsStr;
 use texts::number::number_of;
 use texts::words::Named;
 
-// The most nodes of a cluster.
-const MOST_NODES: u64 = 64;
-
-// The most files of one.
-const MOST_FILES: u64 = 256;
-
-// The most times that an actor begins again.
-const MOST_PAST: u64 = 65_534;
-
-// The greatest number of microseconds by which clocks may differ.
-const GREATEST_SKEW: u64 = 9_223_372_036_854_775_807;
-
-/// What the words of a command line ask for.
-#[derive(Drop)]
-pub(crate) enum Asked<'a> {
-    Seat(ActorLine<'a>),
-    Members(MembersLine<'a>),
-    Merge(MergeLine<'a>),
-    Play,
-}
+// What is said of words with which nothing is wrong by the table, but which come to no line.
+const UNSERVED: &str =
+    "there is no such actor in the cluster, a number is not written plainly, or --journal is missing";
 
 /// What the words ask for, the first of them being the program's name.
 ///
@@ -55,19 +30,13 @@ pub(crate) fn asked_by<'a, S: AsStr>(alloc: Global, words: &'a [S]) -> Result<As
     ensures served { IfOk result IsServedAsked }
     ensures refused { IfErr result (IsRefusal (map S.text words.entry.now)) }
 {
-    match asked_in(alloc, words) {
+    let Ok(mut command) = program(alloc) else {
+        return Err(Refusal::NoMemory);
+    };
+    match asked_of(alloc, &mut command, words) {
         Ok(line) => Ok(line),
         Err(error) => Err(Refusal::of(alloc, &error)),
     }
-}
-
-fn asked_in<'a, S: AsStr>(alloc: Global, words: &'a [S]) -> Result<Asked<'a>, Error>
-    ensures asked { IfOk result (AsksFor (map S.text words.entry.now)) }
-    ensures served { IfOk result IsServedAsked }
-    ensures kind { IfErr result (λ error. IsKindOf (map S.text words.entry.now) (kind_of error)) }
-{
-    let mut command = program(alloc)?;
-    asked_of(alloc, &mut command, words)
 }
 
 // What the command of the table makes of the words, or its error.
@@ -85,23 +54,14 @@ fn asked_of<'a, S: AsStr>(
     let met = line_of(alloc, &matches)?;
     match met {
         Some(line) => Ok(line),
-        None => Err(unserved(command)),
+        None => match command.error(ErrorKind::ValueValidation, UNSERVED) {
+            Ok(error) => Err(error),
+            Err(error) => Err(Error::from(error)),
+        },
     }
 }
 
-// The error of words with which nothing is wrong by the table, but which come to no line.
-fn unserved(command: &mut Command<'_>) -> Error
-    ensures { (kind_of result ≡ ValueValidation) ⊎ (kind_of result ≡ OutOfMemory) }
-{
-    let message =
-        "there is no such actor in the cluster, a number is not written plainly, or --journal is missing";
-    match command.error(ErrorKind::ValueValidation, message) {
-        Ok(error) => error,
-        Err(error) => Error::from(error),
-    }
-}
-
-#[tactic(auto, using(crate::proofs::Getters::served))]
+#[tactic(auto, using(crate::proofs::Asking::served))]
 fn line_of<'a>(alloc: Global, matches: &ArgMatches<'a>) -> Result<Option<Asked<'a>>, AllocError>
     ensures met { IfOk result (λ asked. IfSome asked (IsMet (subcommand_rows_of matches.now))) }
     ensures served { IfOk result (λ asked. IfSome asked IsServedAsked) }
@@ -121,22 +81,20 @@ fn line_of<'a>(alloc: Global, matches: &ArgMatches<'a>) -> Result<Option<Asked<'
 fn seat_in<'a>(values: &ArgMatches<'a>) -> Option<Asked<'a>>
     ensures { IfSome result (IsNamed (codes "seat") (found_of values.now)) }
 {
-    let policy = policy_in(values)?;
+    let policy = Policy::of_word(text_in(values, "POLICY")?)?;
     let shape = shape_in(values, policy)?;
     let actor = actor_in(values, shape)?;
-    let again = flag_in(values, "again");
-    let left = number_in(values, "TIMES", 0, MOST_PAST)?;
-    let clock = flag_in(values, "clock");
+    let again = values.get_flag("again");
+    let left = number_in(values, "TIMES", 0, u64::from(MOST_PAST))? as u16;
     let log = values.get_str("LOG");
+    let clock = values.get_flag("clock");
     Some(Asked::Seat(ActorLine {
-        appointment: Appointment {
-            shape,
-            actor,
-            again,
-            left: left as u16,
-            clock,
-        },
+        shape,
+        actor,
+        again,
+        left,
         log,
+        clock,
     }))
 }
 
@@ -145,7 +103,7 @@ fn members_in<'a>(values: &ArgMatches<'a>) -> Option<Asked<'a>>
 {
     let shape = shape_in(values, Policy::Wide)?;
     let state = text_in(values, "STATE")?;
-    let clock = flag_in(values, "clock");
+    let clock = values.get_flag("clock");
     Some(Asked::Members(MembersLine {
         shape,
         state,
@@ -153,50 +111,39 @@ fn members_in<'a>(values: &ArgMatches<'a>) -> Option<Asked<'a>>
     }))
 }
 
-#[tactic(auto, using(crate::proofs::Getters::has_logs))]
+#[tactic(auto, using(crate::proofs::Asking::has_logs))]
 fn merge_in<'a>(alloc: Global, values: &ArgMatches<'a>) -> Result<Option<Asked<'a>>, AllocError>
     ensures { IfOk result (λ asked. IfSome asked (IsNamed (codes "merge") (found_of values.now))) }
 {
-    let Some(paths) = values.get_strs("LOG") else {
+    let (Some(paths), Some(skew)) = (
+        values.get_strs("LOG"),
+        number_in(values, "N", 0, GREATEST_MOMENT),
+    ) else {
         return Ok(None);
     };
     let mut logs = Vec::new(alloc);
     logs.extend_from_slice(paths)?;
-    Ok(merge_line_in(values, logs))
-}
-
-fn merge_line_in<'a>(values: &ArgMatches<'a>, logs: Vec<&'a str>) -> Option<Asked<'a>>
-    requires { HasLogs (found_of values.now) (map (λ path. path.now) logs.items) }
-    ensures { IfSome result (IsNamed (codes "merge") (found_of values.now)) }
-{
     let journal = values.get_str("JOURNAL");
-    let skew = number_in(values, "N", 0, GREATEST_SKEW)?;
     let members = values.get_str("MEMBERS");
-    let check = flag_in(values, "check");
+    let check = values.get_flag("check");
     if journal.is_none() && !check {
-        return None;
+        return Ok(None);
     }
-    Some(Asked::Merge(MergeLine {
+    Ok(Some(Asked::Merge(MergeLine {
         logs,
         members,
         journal,
         check,
         skew,
-    }))
-}
-
-fn policy_in(values: &ArgMatches<'_>) -> Option<Policy>
-    ensures { IfSome result (λ policy. first_value (found_of values.now) (codes "POLICY") ≡ Some (policy_text policy)) }
-{
-    Policy::of_word(text_in(values, "POLICY")?)
+    })))
 }
 
 // The shape of the cluster.
 fn shape_in(values: &ArgMatches<'_>, policy: Policy) -> Option<Shape>
     ensures { IfSome result (HasShape (found_of values.now) policy) }
 {
-    let nodes = number_in(values, "NODES", 1, MOST_NODES)?;
-    let files = number_in(values, "FILES", 1, MOST_FILES)?;
+    let nodes = number_in(values, "NODES", 1, 64)?;
+    let files = number_in(values, "FILES", 1, 256)?;
     match Shape::new(nodes as u8, files as u16, policy) {
         Ok(shape) => Some(shape),
         Err(_) => None,
@@ -222,7 +169,7 @@ fn actor_in(values: &ArgMatches<'_>, shape: Shape) -> Option<Actor>
 }
 
 // The text of the argument, if it has one.
-#[tactic(auto, using(crate::proofs::Getters::has_text))]
+#[tactic(auto, using(crate::proofs::Asking::has_text))]
 fn text_in<'a>(values: &ArgMatches<'a>, id: &str) -> Option<&'a str>
     ensures { IfSome result (λ text. first_value (found_of values.now) id.now ≡ Some text.now) }
 {
@@ -235,11 +182,4 @@ fn number_in(values: &ArgMatches<'_>, id: &str, least: u64, most: u64) -> Option
     ensures within { IfSome result (λ number. (least ≤ number) × (number ≤ most)) }
 {
     number_of(text_in(values, id)?, least, most)
-}
-
-// Whether the flag is given.
-fn flag_in(values: &ArgMatches<'_>, id: &str) -> bool
-    ensures { HasFlag (one_text (found_of values.now) id.now) result }
-{
-    values.get_flag(id)
 }

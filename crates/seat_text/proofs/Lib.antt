@@ -1,3 +1,4 @@
-pub mod Columns
-pub mod Sayings
-pub mod SeatLineKinds
+pub mod Reading
+pub mod SeatLines
+pub mod Taking
+pub mod Talks

@@ -1,4 +1,5 @@
-pub mod SeatLines
 pub mod Blocks
-pub mod Columns
+pub mod Logs
+pub mod SeatLines
 pub mod Speaking
+pub mod Talks

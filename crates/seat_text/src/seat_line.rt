@@ -1,13 +1,16 @@
 //! The lines that a seat reads.
 ghost use Rattle.std.specs.Prelude.{◌≡◌, IfOk};
-ghost use Rattle.seat_text.specs.rule.SeatLines as lines;
+ghost use Rattle.seat_text.specs.rule.SeatLines.{IsServedLine, column_of, has_operands, line_text, order_of, tag_of};
+ghost use Rattle.texts.specs.rule.Reads.{Reads};
 
-use message_text::written_message::WrittenMessage;
-use messages::event::{Event, MemberEvent, NodeInput, ServerInput};
-use messages::shared_message::SharedMessage;
-use model::op::Op;
+use lockscript::Operation;
+use message_text::{FileField, NodeField, PidField, WrittenMessage, message_of};
+use messages::{Event, MemberEvent, NodeInput, ServerInput, SharedMessage, Version};
+use model::Op;
 use seats::order::Order;
 use std::alloc::{AllocError, Global};
+use texts::number::Within;
+use texts::text::{Text, split_field};
 
 /// A line that a seat reads.
 #[derive(Drop)]
@@ -64,7 +67,7 @@ pub enum SeatLine<'a> {
 impl SeatLine<'_> {
     /// The number that comes back with the reply, where the line has one.
     pub fn tag(&self) -> Option<u64>
-        ensures { result ≡ lines.tag_of self.now }
+        ensures { result ≡ tag_of self.now }
     {
         match self {
             SeatLine::Tagged { tag, .. } => Some(*tag),
@@ -77,7 +80,7 @@ impl SeatLine<'_> {
     /// # Errors
     /// `AllocError` where a request for memory was refused.
     pub fn order(self, alloc: Global) -> Result<Order, AllocError>
-        ensures { IfOk result (λ order. order ≡ lines.order_of self.entry) }
+        ensures { IfOk result (λ order. order ≡ order_of self.entry) }
     {
         Ok(match self {
             SeatLine::Tick => Order::Tick,
@@ -110,4 +113,86 @@ impl SeatLine<'_> {
             }
         })
     }
+}
+
+/// A number of 64 bits, from 1: a tag, or a column.
+pub(crate) type WideField = Within<u64, 1, 18_446_744_073_709_551_615>;
+
+/// The operands of `call`: `N PID OP`.
+type CallFields = (NodeField, (PidField, Operation));
+
+/// The operands of `tagged`: `TAG N PID OP`.
+type TaggedFields = (WideField, CallFields);
+
+/// The operands of `interrupt` and `retry`: `N PID`.
+type ProcessFields = (NodeField, PidField);
+
+/// The line whose text this is; `None` if it is none that a seat reads.
+pub fn seat_line_of(line: &str) -> Option<SeatLine<'_>>
+    ensures { Reads line_text IsServedLine line.now result }
+{
+    match split_field(line) {
+        Some((word, operands)) => match word {
+            "call" => CallFields::read(operands).map(|(node, (pid, op))| SeatLine::Call {
+                node,
+                pid,
+                op,
+            }),
+            "tagged" => TaggedFields::read(operands).map(|(
+                tag,
+                (node, (pid, op)),
+            )| SeatLine::Tagged { tag, node, pid, op }),
+            "deliver" => message_of(Version::Second, operands).map(|message| SeatLine::Deliver(
+                message,
+            )),
+            "interrupt" => ProcessFields::read(operands).map(|(node, pid)| SeatLine::Interrupt {
+                node,
+                pid,
+            }),
+            "retry" => ProcessFields::read(operands).map(|(node, pid)| SeatLine::Retry {
+                node,
+                pid,
+            }),
+            "resend" => FileField::read(operands).map(|file| SeatLine::Resend { file }),
+            "declare" => NodeField::read(operands).map(|node| SeatLine::Declare { node }),
+            "restart" => NodeField::read(operands).map(|node| SeatLine::Restart { node }),
+            "fail-server" => FileField::read(operands).map(|file| SeatLine::FailServer { file }),
+            "start-server" => FileField::read(operands).map(|file| SeatLine::StartServer { file }),
+            _ => None,
+        },
+        None => match line {
+            "tick" => Some(SeatLine::Tick),
+            _ => None,
+        },
+    }
+}
+
+/// The byte of the line, from 1, at which what may not stand there begins: the operands behind its first word, or that word.
+#[tactic(auto, using(crate::proofs::SeatLines::column_behind, crate::proofs::SeatLines::column_alone))]
+pub(crate) fn bad_column(line: &str) -> usize
+    ensures { result ≡ column_of line.now }
+{
+    match split_field(line) {
+        Some((word, _)) if has_operands(word) => word.len() + 2,
+        _ => 1,
+    }
+}
+
+// Whether lines with operands begin with the word.
+fn has_operands(word: &str) -> bool
+    ensures { result ≡ has_operands word.now }
+{
+    matches!(
+        word,
+        "call"
+            | "tagged"
+            | "deliver"
+            | "interrupt"
+            | "retry"
+            | "resend"
+            | "declare"
+            | "restart"
+            | "fail-server"
+            | "start-server"
+    )
 }

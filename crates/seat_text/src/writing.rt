@@ -1,32 +1,169 @@
-//! Writes the blocks of a seat.
+//! A seat that answers lines, and the blocks that it writes.
 //!
 //! Each function here that can fail errs with `AllocError`, where a request for memory was refused.
-ghost use Rattle.std.specs.Prelude.{◌≡◌, ◌++◌, [], List, ℕ, Ok, OnOk, codes, find, fold, string_bytes};
+ghost use Rattle.std.specs.Prelude.{◌≡◌, ◌++◌, List, ℕ, OnOk, Result, string_bytes, Ok, find};
+ghost use Rattle.messages.specs.declared.refusal.Refused.{Refused as Refusal};
+ghost use Rattle.seats.specs.declared.seat_step.SeatStep.{SeatStep};
+ghost use Rattle.seat_text.specs.rule.Blocks.{block, no_entries, actor_text, after_step, again_text, bad_line, cluster_text, count_after, first_block, first_front, refused_line, step_text, tag_line, tagged_line, tags_after, to_lines, whose_text, without};
+ghost use Rattle.seat_text.specs.rule.SeatLines.{order_of, tag_of};
+ghost use Rattle.seat_text.specs.rule.Speaking.{Says};
 ghost use Rattle.messages.specs.rule.Messages.{same_call};
 ghost use Rattle.messages.specs.declared.version.Version.TheVariants.{Second};
 ghost use Rattle.journal_text.specs.rule.Journals.{reply_line};
-ghost use Rattle.journal_text.specs.rule.Texts.{event_text};
-ghost use Rattle.seat_text.specs.rule.Blocks.{actor_text, again_text, after_step, bad_line, block, cluster_text, first_line, first_block, refused_line, step_text, tag_line, tagged_line, to_line, to_lines, whose_text, written};
 
-use crate::ledger::{Ledger, TaggedCall};
+use crate::seat_line::{SeatLine, bad_column, seat_line_of};
+use crate::talk::Answerer;
 use journal_text::journal::push_end;
 use journal_text::writing::push_event;
-use lockscript::replies::push_reply;
-use message_text::names::push_call;
-use message_text::writing::push_message;
-use messages::actor::Actor;
-use messages::event::Event;
-use messages::message::Message;
-use messages::shape::Shape;
-use messages::shared_message::SharedMessage;
-use messages::version::Version;
-use model::call::CallId;
-use model::policy::Policy;
-use model::reply::Reply;
+use lockscript::push_reply;
+use message_text::{push_call, push_message};
+use messages::{Actor, Event, NodeInput, Refused, Shape, SharedMessage, Version};
+use model::{CallId, Policy, Reply};
 use seats::seat_step::SeatStep;
-use std::alloc::AllocError;
+use seats::seated::Seated;
+use std::alloc::{AllocError, Global};
 use std::fmt::Write;
+use std::marker::Model;
+use std::str;
 use texts::words::Named;
+
+/// Who has a seat, and answers lines with blocks.
+#[derive(Drop)]
+pub struct Speaker<S> {
+    alloc: Global,
+    seat: S,
+    ledger: Ledger,
+}
+
+impl<S> Model for Speaker<S> {
+    ghost use Rattle.seat_text.specs.rule.Speaking.{Speaking};
+
+    ghost Value = { Speaking S };
+
+    ghost view = { λ s. record { seat = s.seat; ledger = s.ledger } };
+}
+
+impl<S> Speaker<S> {
+    /// Who has the seat, and has written nothing.
+    pub fn new(alloc: Global, seat: S) -> Speaker<S>
+        ensures { result ≡ record { seat = seat; ledger = no_entries } }
+    {
+        Speaker {
+            alloc,
+            seat,
+            ledger: Ledger {
+                count: 0,
+                tags: Vec::new(alloc),
+            },
+        }
+    }
+}
+
+impl<S: Seated> Answerer for Speaker<S> {
+    ghost says = { Says S.does };
+
+    fn answer(&mut self, line: &[u8], out: &mut String) -> Result<(), AllocError> {
+        let Ok(text) = str::from_utf8(line) else {
+            return push_bad(out, 1);
+        };
+        match seat_line_of(text) {
+            Some(told) => obey(self, told, out),
+            None => push_bad(out, bad_column(text)),
+        }
+    }
+
+    fn answer_long(&mut self, out: &mut String) -> Result<(), AllocError> {
+        push_bad(out, 67_108_865)
+    }
+}
+
+// Does what the line tells.
+fn obey<S: Seated>(
+    who: &mut Speaker<S>,
+    told: SeatLine<'_>,
+    out: &mut String,
+) -> Result<(), AllocError>
+    ensures { OnOk result ((said : List ℕ) × (done : Result (List SeatStep) Refusal) × S.does who.old.seat (order_of told.entry) done who.new.seat
+        × (block (tag_of told.entry) who.old.ledger done ≡ (who.new.ledger, said)) × (string_bytes out.new ≡ string_bytes out.old ++ said)) }
+{
+    let tag = told.tag();
+    let order = told.order(who.alloc)?;
+    match who.seat.take(who.alloc, order) {
+        Ok(steps) => push_block(out, tag, &mut who.ledger, steps.as_slice()),
+        Err(Refused::NoMemory) => Err(AllocError),
+        Err(refusal) => push_refused(out, refusal.number()),
+    }
+}
+
+/// The last call of a process, which had this tag.
+#[derive(Clone, Copy, Debug, PartialEq, Eq)]
+pub struct TaggedCall {
+    pub pid: u16,
+    pub call: CallId,
+    pub tag: u64,
+}
+
+// The number of entries so far, and the tagged calls.
+#[derive(Drop)]
+struct Ledger {
+    count: usize,
+    tags: Vec<TaggedCall>,
+}
+
+impl Model for Ledger {
+    ghost use Rattle.seat_text.specs.rule.Blocks.{Ledger as Fields};
+
+    ghost Value = { Fields };
+
+    ghost view = { λ l. record { count = l.count; tags = l.tags.items } };
+}
+
+impl Ledger {
+    // Notes a step of a line with this tag.
+    fn note(&mut self, tag: Option<u64>, step: &SeatStep) -> Result<(), AllocError>
+        ensures { OnOk result (self.new ≡ after_step tag self.old step.now) }
+    {
+        self.count = count_after(self.count, &step.event);
+        note_call(&mut self.tags, tag, &step.event, step.outcome.call)
+    }
+}
+
+// The number of entries after a step at the event.
+fn count_after(count: usize, event: &Event) -> usize
+    ensures { result ≡ count_after count event.now }
+{
+    match event {
+        Event::Member(_) => count,
+        _ => count.saturating_add(1),
+    }
+}
+
+// Notes the call that the event names, of a line with this tag.
+fn note_call(
+    tags: &mut Vec<TaggedCall>,
+    tag: Option<u64>,
+    event: &Event,
+    call: Option<CallId>,
+) -> Result<(), AllocError>
+    ensures { OnOk result (tags.new.items ≡ tags_after tag tags.old.items event.now call) }
+{
+    let Event::AtNode(_, NodeInput::Call { pid, .. }) = event else {
+        return Ok(());
+    };
+    let pid = *pid;
+    forget(tags, pid);
+    match (tag, call) {
+        (Some(tag), Some(call)) => Ok(tags.push(TaggedCall { pid, call, tag })?),
+        _ => Ok(()),
+    }
+}
+
+// Forgets the call of the process.
+fn forget(tags: &mut Vec<TaggedCall>, pid: u16)
+    ensures { tags.new.items ≡ without pid tags.old.items }
+{
+    tags.retain(|tagged| tagged.pid != pid);
+}
 
 // Adds who a message is for.
 fn push_actor(out: &mut String, actor: Actor) -> Result<(), AllocError>
@@ -38,23 +175,16 @@ fn push_actor(out: &mut String, actor: Actor) -> Result<(), AllocError>
     }
 }
 
-// Adds the line of a message that is sent.
-fn push_to(out: &mut String, message: &Message) -> Result<(), AllocError>
-    ensures { OnOk result (string_bytes out.new ≡ string_bytes out.old ++ to_line message.now) }
-{
-    out.push_str("to ")?;
-    push_actor(out, message.addressee())?;
-    out.push_str(" ")?;
-    push_message(out, Version::Second, message)?;
-    out.push_str("\n")
-}
-
 // Adds the lines of the messages that are sent.
 fn push_sends(out: &mut String, messages: &[SharedMessage]) -> Result<(), AllocError>
     ensures { OnOk result (string_bytes out.new ≡ string_bytes out.old ++ to_lines messages.now) }
 {
     for message in messages {
-        push_to(out, message.get())?;
+        out.push_str("to ")?;
+        push_actor(out, message.get().addressee())?;
+        out.push_str(" ")?;
+        push_message(out, Version::Second, message.get())?;
+        out.push_str("\n")?;
     }
     Ok(())
 }
@@ -113,33 +243,13 @@ fn push_tag(
     push_tagged(out, find(tags, call))
 }
 
-// Adds the event of a step, and the end of its line.
-fn push_event_of(out: &mut String, step: &SeatStep) -> Result<(), AllocError>
-    ensures { OnOk result (string_bytes out.new ≡ string_bytes out.old ++ (event_text Second step.now.event step.now.incarnation step.now.outcome.call ++ codes "\n")) }
+// Adds what stands before the event in the first line of a step.
+fn push_front(out: &mut String, count: usize, event: &Event) -> Result<(), AllocError>
+    ensures { OnOk result (string_bytes out.new ≡ string_bytes out.old ++ first_front count event.now) }
 {
-    push_event(
-        out,
-        Version::Second,
-        &step.event,
-        step.incarnation,
-        &step.outcome.call,
-    )?;
-    out.push_str("\n")
-}
-
-// Adds the first line of a step.
-fn push_first(out: &mut String, count: usize, step: &SeatStep) -> Result<(), AllocError>
-    ensures { OnOk result (string_bytes out.new ≡ string_bytes out.old ++ first_line count step.now.event step.now.incarnation step.now.outcome.call) }
-{
-    match &step.event {
-        Event::Member(_) => {
-            out.push_str("member ")?;
-            push_event_of(out, step)
-        }
-        _ => {
-            write!(out, "entry {count} ")?;
-            push_event_of(out, step)
-        }
+    match event {
+        Event::Member(_) => out.push_str("member "),
+        _ => write!(out, "entry {count} "),
     }
 }
 
@@ -147,43 +257,17 @@ fn push_first(out: &mut String, count: usize, step: &SeatStep) -> Result<(), All
 fn push_step(out: &mut String, ledger: &Ledger, step: &SeatStep) -> Result<(), AllocError>
     ensures { OnOk result (string_bytes out.new ≡ string_bytes out.old ++ step_text ledger.now step.now) }
 {
-    push_first(out, ledger.count(), step)?;
+    let call = &step.outcome.call;
+    push_front(out, ledger.count, &step.event)?;
+    push_event(out, Version::Second, &step.event, step.incarnation, call)?;
+    out.push_str("\n")?;
     push_answer(out, step.outcome.reply)?;
-    push_tag(out, ledger.tags(), step.outcome.reply)?;
+    push_tag(out, ledger.tags.as_slice(), step.outcome.reply)?;
     push_sends(out, step.outcome.sends.as_slice())
 }
 
-// Adds a step, and notes it.
-fn put_step(
-    out: &mut String,
-    tag: Option<u64>,
-    ledger: &mut Ledger,
-    step: &SeatStep,
-) -> Result<(), AllocError>
-    ensures noted { OnOk result (ledger.new ≡ after_step tag ledger.old step.now) }
-    ensures text { OnOk result (string_bytes out.new ≡ string_bytes out.old ++ step_text (after_step tag ledger.old step.now) step.now) }
-{
-    ledger.note(tag, step)?;
-    push_step(out, ledger, step)
-}
-
-// Adds the steps.
-fn put_steps(
-    out: &mut String,
-    tag: Option<u64>,
-    ledger: &mut Ledger,
-    steps: &[SeatStep],
-) -> Result<(), AllocError>
-    ensures { OnOk result ((text : List ℕ) × (fold (written tag) (ledger.old, []) steps.now ≡ (ledger.new, text)) × (string_bytes out.new ≡ string_bytes out.old ++ text)) }
-{
-    for step in steps {
-        put_step(out, tag, ledger, step)?;
-    }
-    Ok(())
-}
-
-/// Adds the block of these steps, of a line with this tag.
-pub(crate) fn push_block(
+// Adds the block of these steps, of a line with this tag.
+fn push_block(
     out: &mut String,
     tag: Option<u64>,
     ledger: &mut Ledger,
@@ -191,19 +275,22 @@ pub(crate) fn push_block(
 ) -> Result<(), AllocError>
     ensures { OnOk result ((text : List ℕ) × (block tag ledger.old (Ok steps.now) ≡ (ledger.new, text)) × (string_bytes out.new ≡ string_bytes out.old ++ text)) }
 {
-    put_steps(out, tag, ledger, steps)?;
-    push_end(out, ledger.count())
+    for step in steps {
+        ledger.note(tag, step)?;
+        push_step(out, ledger, step)?;
+    }
+    push_end(out, ledger.count)
 }
 
 /// Adds the block of a line that is refused.
-pub(crate) fn push_refused(out: &mut String, code: u16) -> Result<(), AllocError>
+pub fn push_refused(out: &mut String, code: u16) -> Result<(), AllocError>
     ensures { OnOk result (string_bytes out.new ≡ string_bytes out.old ++ refused_line code) }
 {
     writeln!(out, "refused {code}")
 }
 
 /// Adds the block of a line that is none.
-pub(crate) fn push_bad(out: &mut String, column: usize) -> Result<(), AllocError>
+pub fn push_bad(out: &mut String, column: usize) -> Result<(), AllocError>
     ensures { OnOk result (string_bytes out.new ≡ string_bytes out.old ++ bad_line column) }
 {
     writeln!(out, "refused 9 {column}")

@@ -6,7 +6,7 @@ use Rattle.messages.specs.declared.refusal.Refused.{Refused}
 use Rattle.messages.specs.declared.refusal.Refused.TheVariants.{NoMemory}
 use Rattle.messages.specs.declared.refusal.StepError.{StepError}
 use Rattle.messages.specs.declared.refusal.StepError.TheVariants as step
-use Rattle.messages.specs.rule.Refusals.{refused_by}
+use Rattle.messages.specs.rule.Entries.{refused_by}
 use Rattle.seats.specs.declared.seat_step.SeatStep.{SeatStep}
 use Rattle.seats.specs.rule.Steps.{step_of, stepped}
 

@@ -1,4 +1,3 @@
-pub mod Waits
 pub mod Steps
 pub mod NodeSeats
 pub mod ServerSeats

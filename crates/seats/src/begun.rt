@@ -1,10 +1,10 @@
 //! Which incarnations have begun.
 ghost use Rattle.std.specs.Prelude.{◌≡◌};
-ghost use Rattle.messages.specs.rule.Parts.{members_state};
+ghost use Rattle.messages.specs.rule.Members.{members_state};
 ghost use Rattle.seats.specs.rule.Steps.{has_begun};
 
-use messages::members::Members;
-use model::host::Host;
+use messages::Members;
+use model::Host;
 
 /// Whether the node has begun in this incarnation.
 pub(crate) fn has_begun(members: &Members, host: Host) -> bool

@@ -12,13 +12,8 @@ ghost use Rattle.seats.specs.rule.Steps.{step_of};
 
 use crate::seat_step::SeatStep;
 use crate::wait::{Wait, wait_of};
-use messages::event::{Event, NodeInput};
-use messages::items::Items;
-use messages::refusal::StepError;
-use node_core::change::NodeChange;
-use node_core::event::NodeEvent;
-use node_core::node::Node;
-use node_core::open_call::OpenCall;
+use messages::{Event, Items, NodeInput, StepError};
+use node_core::{Node, NodeChange, NodeEvent, OpenCall};
 use std::alloc::{AllocError, Global};
 
 // What a retry of the call of the process does; `None` where it is refused.

@@ -1,5 +1,5 @@
 //! What a seat is told.
-use messages::event::Event;
+use messages::Event;
 
 /// What a seat is told: that something happens, or that time goes by.
 #[derive(Drop)]

@@ -3,10 +3,7 @@ ghost use Rattle.std.specs.Prelude.{◌≡◌, ◌∷◌, [], IfOk};
 ghost use Rattle.messages.specs.rule.Messages.{sending};
 ghost use Rattle.seats.specs.rule.Steps.{of_member, step_of};
 
-use messages::event::{Event, MemberEvent};
-use messages::items::Items;
-use messages::outcome::Outcome;
-use messages::sends::Sends;
+use messages::{Event, Items, MemberEvent, Outcome, Sends};
 use std::alloc::{AllocError, Global};
 
 /// A step of the seat's actor, or a change of a member: the event, the incarnation or epoch that its entry names (0 for none),

@@ -13,8 +13,7 @@ use crate::node_seat::NodeSeat;
 use crate::order::Order;
 use crate::seat_step::SeatStep;
 use crate::server_seat::ServerSeat;
-use messages::items::Items;
-use messages::refusal::Refused;
+use messages::{Items, Refused};
 use std::alloc::Global;
 
 /// Who has a seat: a node, or a token server.

@@ -6,8 +6,7 @@ ghost use Rattle.messages.specs.declared.refusal.Refused.TheVariants.{NoMemory, 
 ghost use Rattle.messages.specs.declared.event.Event.TheVariants as event;
 ghost use Rattle.messages.specs.declared.event.MemberEvent.TheVariants as change;
 ghost use Rattle.messages.specs.declared.event.ServerInput.TheVariants as order;
-ghost use Rattle.messages.specs.rule.Members.{declared_failed, restarted, with_declared};
-ghost use Rattle.messages.specs.rule.Parts.{members_state};
+ghost use Rattle.messages.specs.rule.Members.{declared_failed, restarted, with_declared, members_state};
 ghost use Rattle.token_server.specs.declared.event.ServerEvent.TheVariants as own;
 ghost use Rattle.token_server.specs.rule.Parts.{server_state};
 ghost use Rattle.token_server.specs.rule.Server.{server_rule};
@@ -19,17 +18,12 @@ ghost use Rattle.seats.specs.rule.Steps.{stepped};
 use crate::begun::has_begun;
 use crate::order::Order;
 use crate::seat_step::{SeatStep, one, silent};
-use messages::event::{Event, MemberEvent, ServerInput};
-use messages::items::Items;
-use messages::members::Members;
-use messages::pace::Pace;
-use messages::refusal::Refused;
-use messages::shape::Shape;
-use messages::shared_message::SharedMessage;
+use messages::{
+    Event, Items, MemberEvent, Members, Pace, Refused, ServerInput, Shape, SharedMessage,
+};
 use std::alloc::{AllocError, Global};
 use std::marker::Model;
-use token_server::event::ServerEvent;
-use token_server::server::Server;
+use token_server::{Server, ServerEvent};
 
 mod events;
 

@@ -1,9 +1,8 @@
 //! How long an open call of a node waits.
 ghost use Rattle.std.specs.Prelude.{◌≡◌, ◌==◌, find};
-ghost use Rattle.seats.specs.rule.Waits.{first_wait, is_made, wait_of, waited};
+ghost use Rattle.seats.specs.rule.Steps.{first_wait, is_made, wait_of, waited};
 
-use messages::outcome::Outcome;
-use messages::patience::Patience;
+use messages::{Outcome, Patience};
 
 /// An open call at the last tick: its number, when it is tried again, and whether a lock of its own node was in its way, so
 /// that a try sent nothing and answered nothing.

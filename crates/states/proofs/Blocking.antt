@@ -9,14 +9,14 @@ use Rattle.model.specs.declared.owner.Owner.{Owner}
 use Rattle.model.specs.rule.Locks.{excludes, IsRegion}
 use Rattle.model.specs.rule.Owners.{same_owner}
 use Rattle.model.proofs.OwnerLaws.{owner_exact, owner_refl}
-use Rattle.lock_table.specs.rule.Listing.{IsBefore}
+use Rattle.lock_table.specs.rule.Tables.{IsBefore}
 use Rattle.node_core.specs.declared.open_call.OpenCall.{OpenCall}
 use Rattle.cluster_core.specs.declared.held_lock.HeldLock.{HeldLock}
 use Rattle.cluster_core.specs.rule.World.{WorldState, has_file}
 use Rattle.cluster_core.specs.rule.Union.{union}
 use Rattle.cluster_core.specs.rule.Listings.{Lists, IsHeld, IsHeldBefore, IsLockListing, held_lock}
 use Rattle.cluster_core.proofs.common.Lists.{All-both, lists_map}
-use Rattle.states.specs.rule.OpenCalls.{IsBlocker}
+use Rattle.states.specs.rule.States.{IsBlocker}
 use Rattle.states.specs.code.Blockers.{blocking_of, is_blocker}
 
 -- what is in a list and passes the test is in what a filter keeps

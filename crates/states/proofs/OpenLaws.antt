@@ -8,7 +8,7 @@ use Rattle.node_core.specs.declared.open_call.OpenCall.{OpenCall}
 use Rattle.cluster_core.specs.rule.World.{WorldState, has_node, is_alive}
 use Rattle.messages.specs.rule.Shapes.{IsShape}
 use Rattle.states.specs.declared.open_call.OpenState.{OpenState}
-use Rattle.states.specs.rule.OpenCalls.{open_in, open_on, open_up_to}
+use Rattle.states.specs.rule.States.{open_in, open_on, open_up_to}
 
 module _ {A B : Type 0} (f : A → B) where
   -- what is among what f gives of the elements is given of one

@@ -7,7 +7,7 @@ use Rattle.node_core.specs.declared.open_call.OpenCall.{OpenCall}
 use Rattle.node_core.specs.rule.State.{NodeState}
 use Rattle.cluster_core.specs.rule.World.{WorldState, has_node, is_alive}
 use Rattle.cluster_core.specs.rule.Actors.{HasNode}
-use Rattle.states.specs.rule.OpenCalls.{open_on}
+use Rattle.states.specs.rule.States.{open_on}
 
 -- a node that is not alive adds none
 pub open_dead : (w : WorldState) (n : ℕ) (old : List OpenCall) → is_alive w n ≡ false → old ≡ old ++ open_on w n

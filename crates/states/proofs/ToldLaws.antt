@@ -5,13 +5,13 @@ use Rattle.std.proofs.lemmas.List.{map_push}
 use Rattle.std.proofs.lemmas.List.Elements.{All-weaker}
 use Rattle.node_core.specs.rule.State.{NodeState}
 use Rattle.token_server.specs.rule.State.{ServerState}
-use Rattle.token_server.specs.code.Readers.{nodes_where, IsRow}
+use Rattle.token_server.specs.code.Rows.{nodes_where, IsRow}
 use Rattle.token_server.specs.declared.shown_row.ShownRow.{ShownRow}
 use Rattle.token_server.proofs.ReaderLaws.{nodes_where-passing}
 use Rattle.cluster_core.specs.rule.World.{WorldState, is_alive}
 use Rattle.cluster_core.specs.rule.Actors.{HasNode}
-use Rattle.states.specs.declared.told_node.ToldNode.{ToldNode}
-use Rattle.states.specs.declared.told_server.ToldServer.{ToldServer}
+use Rattle.states.specs.declared.cluster_state.ToldNode.{ToldNode}
+use Rattle.states.specs.declared.cluster_state.ToldServer.{ToldServer}
 use Rattle.states.specs.rule.States.{IsShown, IsToldNode, IsToldServer}
 
 -- one element more comes last, if its number is the next one and passes

@@ -1,3 +1,2 @@
-pub mod OpenCalls
 pub mod States
 pub mod Texts

@@ -8,7 +8,7 @@
 
 pub mod cluster_state;
 pub mod open_call;
-mod server_lines;
 pub mod state_text;
-pub mod told_node;
-pub mod told_server;
+
+pub use cluster_state::ClusterState;
+pub use open_call::{OpenState, is_wait, open_states};

@@ -2,14 +2,11 @@
 ghost use Rattle.std.specs.Prelude.{◌≡◌, ◌++◌, All, map, IfOk, OnOk};
 ghost use Rattle.cluster_core.specs.rule.Parts.{world_state};
 ghost use Rattle.states.specs.code.Blockers.{blocking_of, is_blocker};
-ghost use Rattle.states.specs.rule.OpenCalls.{is_wait, open_in, open_on, open_up_to, IsOpenState};
+ghost use Rattle.states.specs.rule.States.{is_wait, open_in, open_on, open_up_to, IsOpenState};
 
-use cluster_core::held_lock::HeldLock;
-use cluster_core::world::World;
-use model::limits::MOST_NODES;
-use model::lock_info::LockInfo;
-use model::op::LockCommand;
-use node_core::open_call::OpenCall;
+use cluster_core::{HeldLock, World};
+use model::{LockCommand, LockInfo, MOST_NODES};
+use node_core::OpenCall;
 use std::alloc::{AllocError, Global};
 
 /// An open call of a live node: what it asks for, and each lock that blocks it, on any live node, by first byte and
@@ -36,7 +33,7 @@ pub fn open_states(alloc: Global, world: &World) -> Result<Vec<OpenState>, Alloc
     ensures states { IfOk result (λ states. All (IsOpenState (world_state world.now)) states.items) }
 {
     let locks = world.locks(alloc)?;
-    let calls = open_in(alloc, world)?;
+    let calls = open_up_to(alloc, world, MOST_NODES)?;
     let mut states = Vec::new(alloc);
     for asked in &calls {
         let state = state_of(alloc, locks.as_slice(), asked)?;
@@ -57,15 +54,8 @@ fn state_of(alloc: Global, locks: &[HeldLock], asked: &OpenCall) -> Result<OpenS
     })
 }
 
-// The open calls of the live nodes of a world, by node, and then in the order in which the node took them.
-fn open_in(alloc: Global, world: &World) -> Result<Vec<OpenCall>, AllocError>
-    ensures { IfOk result (λ calls. calls.items ≡ open_in (world_state world.now)) }
-{
-    open_up_to(alloc, world, MOST_NODES)
-}
-
-// Those of the nodes up to this one.
-#[tactic(auto, unfolding(crate::specs::rule::OpenCalls::open_up_to))]
+// The open calls of the live nodes up to this one, by node, and then in the order in which the node took them.
+#[tactic(auto, unfolding(crate::specs::rule::States::open_up_to))]
 fn open_up_to(alloc: Global, world: &World, count: u8) -> Result<Vec<OpenCall>, AllocError>
     ensures { IfOk result (λ calls. calls.items ≡ open_up_to (world_state world.now) count) }
 {

@@ -1,22 +1,18 @@
 //! The text of what is told of a world. Each line has one thing, and can be read alone.
 ghost use Rattle.std.specs.Prelude.{◌≡◌, ◌++◌, flat_map, string_bytes, IfOk, OnOk};
-ghost use Rattle.states.specs.rule.Texts.{asked_text, command_word, epoch_lines, failed_line, file_text, held_line, live_line, node_lines, open_line, open_lines, open_lines_in, opening_text, process_text, state_text, token_line, works_line, IsStateText};
+ghost use Rattle.states.specs.rule.Texts.{asked_text, awaited_line, command_line, command_word, dead_line, epoch_lines, held_line, live_line, node_lines, open_line, open_lines, put_lines, request_line, request_of, row_lines, row_name, row_token_line, served_line, served_lines, server_lines, serves_text, state_text, token_line, waits_text, works_line, IsStateText};
 
-use crate::cluster_state::ClusterState;
-use crate::server_lines::push_servers;
-use crate::told_node::ToldNode;
-use crate::told_server::ToldEpoch;
-use cluster_core::held_lock::HeldLock;
-use cluster_core::node_token_run::NodeTokenRun;
-use message_text::names::{push_host, push_lock};
-use messages::version::Version;
-use model::level::Level;
-use model::lock_info::LockInfo;
-use model::op::LockCommand;
-use node_core::open_call::OpenCall;
+use crate::cluster_state::{ClusterState, KnownDead, ToldEpoch, ToldNode, ToldServer};
+use cluster_core::{HeldLock, NodeTokenRun};
+use intervals::span::Span;
+use message_text::{push_host, push_lock, push_message};
+use messages::{FileNumber, GREATEST_NUMBER, Message, Version};
+use model::{Level, LockCommand, LockInfo};
+use node_core::OpenCall;
 use std::alloc::{AllocError, Global};
 use std::fmt::Write;
 use texts::words::Named;
+use token_server::{ActiveRequest, ShownRow, TokenRequest};
 
 /// The text of what is told of a cluster of this version after the entry at this position, 0 before the first one.
 pub fn state_text(
@@ -29,31 +25,38 @@ pub fn state_text(
 {
     let mut out = String::new(alloc);
     writeln!(out, "state after entry {position}")?;
-    push_nodes(&mut out, state.nodes.as_slice())?;
-    push_epochs(&mut out, state.epochs.as_slice())?;
-    push_tokens(&mut out, state.tokens.as_slice())?;
-    push_locks(&mut out, state.locks.as_slice())?;
-    push_all_calls(&mut out, state.nodes.as_slice())?;
-    push_servers(&mut out, version, state.servers.as_slice())?;
-    Ok(out)
-}
-
-// Writes the lines of nodes.
-fn push_nodes(out: &mut String, nodes: &[ToldNode]) -> Result<(), AllocError>
-    ensures { OnOk result (string_bytes out.new ≡ string_bytes out.old ++ flat_map node_lines nodes.now) }
-{
-    for node in nodes {
-        push_node(out, node)?;
+    for node in &state.nodes {
+        push_node(&mut out, node)?;
     }
-    Ok(())
+    for epoch in &state.epochs {
+        push_epoch(&mut out, *epoch)?;
+    }
+    for token in &state.tokens {
+        push_token(&mut out, token)?;
+    }
+    push_locks(&mut out, state.locks.as_slice())?;
+    for told in &state.nodes {
+        push_calls(&mut out, told)?;
+    }
+    for server in &state.servers {
+        push_server(&mut out, version, server)?;
+    }
+    Ok(out)
 }
 
 // Writes the lines of a node: that it is alive, and the incarnations that were declared failed.
 fn push_node(out: &mut String, told: &ToldNode) -> Result<(), AllocError>
     ensures { OnOk result (string_bytes out.new ≡ string_bytes out.old ++ node_lines told.now) }
 {
-    push_live(out, told.node, told.live)?;
-    push_failed(out, told.node, told.dead)
+    let node = told.node;
+    let dead = told.dead;
+    push_live(out, node, told.live)?;
+    if dead == 0 {
+        return Ok(());
+    }
+    write!(out, "node {node} failed ")?;
+    push_host(out, node, dead)?;
+    out.push_str("\n")
 }
 
 // Writes the line of a node that is alive.
@@ -66,28 +69,6 @@ fn push_live(out: &mut String, node: u8, live: Option<u16>) -> Result<(), AllocE
     write!(out, "node {node} live ")?;
     push_host(out, node, incarnation)?;
     out.push_str("\n")
-}
-
-// Writes the line of a node of which incarnations were declared failed.
-fn push_failed(out: &mut String, node: u8, dead: u16) -> Result<(), AllocError>
-    ensures { OnOk result (string_bytes out.new ≡ string_bytes out.old ++ failed_line node dead) }
-{
-    if dead == 0 {
-        return Ok(());
-    }
-    write!(out, "node {node} failed ")?;
-    push_host(out, node, dead)?;
-    out.push_str("\n")
-}
-
-// Writes the lines of the epochs of servers.
-fn push_epochs(out: &mut String, epochs: &[ToldEpoch]) -> Result<(), AllocError>
-    ensures { OnOk result (string_bytes out.new ≡ string_bytes out.old ++ flat_map epoch_lines epochs.now) }
-{
-    for epoch in epochs {
-        push_epoch(out, *epoch)?;
-    }
-    Ok(())
 }
 
 // Writes the lines of the epochs of a server: the one in which it works, and those that failed.
@@ -112,16 +93,6 @@ fn push_works(out: &mut String, told: ToldEpoch) -> Result<(), AllocError>
         return Ok(());
     }
     writeln!(out, "server {file} works in epoch {epoch}")
-}
-
-// Writes the lines of tokens.
-fn push_tokens(out: &mut String, tokens: &[NodeTokenRun]) -> Result<(), AllocError>
-    ensures { OnOk result (string_bytes out.new ≡ string_bytes out.old ++ flat_map token_line tokens.now) }
-{
-    for token in tokens {
-        push_token(out, token)?;
-    }
-    Ok(())
 }
 
 // Writes the line of a run of a token.
@@ -158,37 +129,15 @@ fn push_held(out: &mut String, held: &HeldLock) -> Result<(), AllocError>
     out.push_str("\n")
 }
 
-// Writes the lines of the open calls of nodes.
-fn push_all_calls(out: &mut String, nodes: &[ToldNode]) -> Result<(), AllocError>
-    ensures { OnOk result (string_bytes out.new ≡ string_bytes out.old ++ flat_map open_lines nodes.now) }
-{
-    for node in nodes {
-        push_calls(out, node)?;
-    }
-    Ok(())
-}
-
 // Writes the lines of the open calls of a node.
 fn push_calls(out: &mut String, told: &ToldNode) -> Result<(), AllocError>
     ensures { OnOk result (string_bytes out.new ≡ string_bytes out.old ++ open_lines told.now) }
 {
-    match told.live {
-        Some(incarnation) => push_calls_in(out, told.node, incarnation, told.calls.as_slice()),
-        None => Ok(()),
-    }
-}
-
-// Writes the lines of open calls of a node in this incarnation.
-fn push_calls_in(
-    out: &mut String,
-    node: u8,
-    incarnation: u16,
-    calls: &[OpenCall],
-) -> Result<(), AllocError>
-    ensures { OnOk result (string_bytes out.new ≡ string_bytes out.old ++ open_lines_in node incarnation calls.now) }
-{
-    for call in calls {
-        push_open(out, node, incarnation, call)?;
+    let Some(incarnation) = told.live else {
+        return Ok(());
+    };
+    for call in &told.calls {
+        push_open(out, told.node, incarnation, call)?;
     }
     Ok(())
 }
@@ -202,35 +151,14 @@ fn push_open(
 ) -> Result<(), AllocError>
     ensures { OnOk result (string_bytes out.new ≡ string_bytes out.old ++ open_line node incarnation call.now) }
 {
-    push_opening(out, node, incarnation)?;
-    push_process(out, call)?;
-    push_file(out, call)?;
-    push_asked(out, call)
-}
-
-// Writes the beginning of the line, with the node.
-fn push_opening(out: &mut String, node: u8, incarnation: u16) -> Result<(), AllocError>
-    ensures { OnOk result (string_bytes out.new ≡ string_bytes out.old ++ opening_text node incarnation) }
-{
-    out.push_str("open ")?;
-    push_host(out, node, incarnation)
-}
-
-// Writes the number of the call, and its process.
-fn push_process(out: &mut String, call: &OpenCall) -> Result<(), AllocError>
-    ensures { OnOk result (string_bytes out.new ≡ string_bytes out.old ++ process_text call.now) }
-{
     let number = call.number;
     let pid = call.pid;
-    write!(out, ".{number} process {pid}")
-}
-
-// Writes its file.
-fn push_file(out: &mut String, call: &OpenCall) -> Result<(), AllocError>
-    ensures { OnOk result (string_bytes out.new ≡ string_bytes out.old ++ file_text call.now) }
-{
     let file = call.file;
-    write!(out, " file {file} ")
+    out.push_str("open ")?;
+    push_host(out, node, incarnation)?;
+    write!(out, ".{number} process {pid}")?;
+    write!(out, " file {file} ")?;
+    push_asked(out, call)
 }
 
 // Writes the end of the line: what the call asks, and about which lock.
@@ -257,4 +185,216 @@ fn word_of(command: LockCommand) -> &'static str
         LockCommand::Wait => "wait",
         LockCommand::Query => "query",
     }
+}
+
+// Writes the lines of a server: its requests, its rows, the nodes that it awaits, the incarnations that it knows to
+// be dead.
+fn push_server(out: &mut String, version: Version, server: &ToldServer) -> Result<(), AllocError>
+    ensures { OnOk result (string_bytes out.new ≡ string_bytes out.old ++ server_lines version server.now) }
+{
+    let file = server.file;
+    push_served(out, version, file, server.served.as_slice())?;
+    push_requests(out, version, file, "queued", server.queued.as_slice())?;
+    push_requests(out, version, file, "waiting", server.waiting.as_slice())?;
+    for row in &server.rows {
+        push_row(out, version, file, row)?;
+    }
+    push_awaited(out, file, server.awaited.as_slice())?;
+    push_dead(out, file, server.dead.as_slice())
+}
+
+// Writes the lines of requests that are served.
+fn push_served(
+    out: &mut String,
+    version: Version,
+    file: FileNumber,
+    served: &[ActiveRequest],
+) -> Result<(), AllocError>
+    ensures { OnOk result (string_bytes out.new ≡ string_bytes out.old ++ served_lines version file served.now) }
+{
+    for held in served {
+        push_held_request(out, version, file, held)?;
+    }
+    Ok(())
+}
+
+// Writes the line of one of them.
+fn push_held_request(
+    out: &mut String,
+    version: Version,
+    file: FileNumber,
+    held: &ActiveRequest,
+) -> Result<(), AllocError>
+    ensures { OnOk result (string_bytes out.new ≡ string_bytes out.old ++ served_line version file held.now) }
+{
+    push_serves(out, file)?;
+    push_waits(out, held.at)?;
+    push_request(out, version, file, &held.request)
+}
+
+// Writes which server serves it.
+fn push_serves(out: &mut String, file: FileNumber) -> Result<(), AllocError>
+    ensures { OnOk result (string_bytes out.new ≡ string_bytes out.old ++ serves_text file) }
+{
+    let number = file.get();
+    write!(out, "server {number} serves, ")
+}
+
+// Writes whose answer the server waits for.
+fn push_waits(out: &mut String, at: u8) -> Result<(), AllocError>
+    ensures { OnOk result (string_bytes out.new ≡ string_bytes out.old ++ waits_text at) }
+{
+    write!(out, "waits for node {at} to answer: ")
+}
+
+// Writes the lines of requests that are queued or wait for a lock to go, as the word says.
+fn push_requests(
+    out: &mut String,
+    version: Version,
+    file: FileNumber,
+    word: &str,
+    requests: &[TokenRequest],
+) -> Result<(), AllocError>
+    ensures { OnOk result (string_bytes out.new ≡ string_bytes out.old ++ put_lines version file word.now requests.now) }
+{
+    for request in requests {
+        let number = file.get();
+        write!(out, "server {number} {word}: ")?;
+        push_request(out, version, file, request)?;
+    }
+    Ok(())
+}
+
+// Writes a request to the server of the file, as a message, and the end of the line.
+fn push_request(
+    out: &mut String,
+    version: Version,
+    file: FileNumber,
+    request: &TokenRequest,
+) -> Result<(), AllocError>
+    ensures { OnOk result (string_bytes out.new ≡ string_bytes out.old ++ request_line version file request.now) }
+{
+    let message = Message::Request {
+        file,
+        call: request.call,
+        blocking: request.blocking,
+        mode: request.mode,
+        wanted: request.wanted,
+    };
+    push_message(out, version, &message)?;
+    out.push_str("\n")
+}
+
+// Writes the lines of a row: how many commands the node was given in this epoch, its token, and the command that has
+// no answer.
+fn push_row(
+    out: &mut String,
+    version: Version,
+    file: FileNumber,
+    row: &ShownRow,
+) -> Result<(), AllocError>
+    ensures { OnOk result (string_bytes out.new ≡ string_bytes out.old ++ row_lines version file row.now) }
+{
+    let commands = row.number % (u64::from(GREATEST_NUMBER) + 1);
+    push_row_name(out, file, row)?;
+    writeln!(out, " commands {commands}")?;
+    push_row_token(out, file, row, row.token.as_slice())?;
+    push_command(out, version, file, row)
+}
+
+// Writes the lines of the token of a row's node.
+fn push_row_token(
+    out: &mut String,
+    file: FileNumber,
+    row: &ShownRow,
+    runs: &[(Span, Level)],
+) -> Result<(), AllocError>
+    ensures { OnOk result (string_bytes out.new ≡ string_bytes out.old ++ flat_map (row_token_line file row.now) runs.now) }
+{
+    for run in runs {
+        push_run(out, file, row, run)?;
+    }
+    Ok(())
+}
+
+// Writes the line of a run of a token.
+fn push_run(
+    out: &mut String,
+    file: FileNumber,
+    row: &ShownRow,
+    run: &(Span, Level),
+) -> Result<(), AllocError>
+    ensures { OnOk result (string_bytes out.new ≡ string_bytes out.old ++ row_token_line file row.now run.now) }
+{
+    let level = Level::word(run.1);
+    let lo = run.0.lo;
+    let hi = run.0.hi;
+    push_row_name(out, file, row)?;
+    writeln!(out, " token {level} {lo} {hi}")
+}
+
+// Writes the line of the command that has no answer, if there is one.
+fn push_command(
+    out: &mut String,
+    version: Version,
+    file: FileNumber,
+    row: &ShownRow,
+) -> Result<(), AllocError>
+    ensures { OnOk result (string_bytes out.new ≡ string_bytes out.old ++ command_line version file row.now row.now.command) }
+{
+    let Some(command) = &row.command else {
+        return Ok(());
+    };
+    push_row_name(out, file, row)?;
+    out.push_str(" is to answer: ")?;
+    push_message(out, version, command)?;
+    out.push_str("\n")
+}
+
+// Writes `server F row HOST`.
+fn push_row_name(out: &mut String, file: FileNumber, row: &ShownRow) -> Result<(), AllocError>
+    ensures { OnOk result (string_bytes out.new ≡ string_bytes out.old ++ row_name file row.now) }
+{
+    let number = file.get();
+    write!(out, "server {number} row ")?;
+    push_host(out, row.node, row.incarnation)
+}
+
+// Writes the lines of the nodes that the server awaits.
+fn push_awaited(out: &mut String, file: FileNumber, nodes: &[u8]) -> Result<(), AllocError>
+    ensures { OnOk result (string_bytes out.new ≡ string_bytes out.old ++ flat_map (awaited_line file) nodes.now) }
+{
+    for node in nodes {
+        push_awaited_node(out, file, *node)?;
+    }
+    Ok(())
+}
+
+// Writes the line of one of them.
+fn push_awaited_node(out: &mut String, file: FileNumber, node: u8) -> Result<(), AllocError>
+    ensures { OnOk result (string_bytes out.new ≡ string_bytes out.old ++ awaited_line file node) }
+{
+    let number = file.get();
+    write!(out, "server {number} waits ")?;
+    writeln!(out, "for the report of node {node}")
+}
+
+// Writes the lines of the incarnations that the server knows to be dead.
+fn push_dead(out: &mut String, file: FileNumber, dead: &[KnownDead]) -> Result<(), AllocError>
+    ensures { OnOk result (string_bytes out.new ≡ string_bytes out.old ++ flat_map (dead_line file) dead.now) }
+{
+    for known in dead {
+        push_known(out, file, *known)?;
+    }
+    Ok(())
+}
+
+// Writes the line of one of them.
+fn push_known(out: &mut String, file: FileNumber, known: KnownDead) -> Result<(), AllocError>
+    ensures { OnOk result (string_bytes out.new ≡ string_bytes out.old ++ dead_line file known) }
+{
+    let number = file.get();
+    write!(out, "server {number} knows dead ")?;
+    push_host(out, known.node, known.incarnation)?;
+    out.push_str("\n")
 }

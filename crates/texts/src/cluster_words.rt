@@ -3,8 +3,7 @@ ghost use Rattle.std.specs.Prelude.{true};
 ghost use Rattle.texts.specs.rule.Words.{level_text, policy_text};
 
 use crate::words::{Named, value_of, word_of};
-use model::level::Level;
-use model::policy::Policy;
+use model::{Level, Policy};
 
 /// A policy is written as `wide` or `exact`.
 impl Named for Policy {

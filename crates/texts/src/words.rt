@@ -5,9 +5,7 @@ ghost use Rattle.texts.specs.rule.Reads.{Reads, has_no_space};
 ghost use Rattle.texts.specs.rule.Words.{access_text, kind_text, mode_text};
 
 use crate::text::{Text, Word};
-use model::access::Access;
-use model::mode::Mode;
-use model::owner::Kind;
+use model::{Access, Kind, Mode};
 use std::alloc::AllocError;
 
 /// Types whose values are each written as a word.

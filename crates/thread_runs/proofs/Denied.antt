@@ -14,7 +14,7 @@ use Rattle.thread_runs.specs.declared.played_line.PlayedLine.{PlayedLine}
 use Rattle.model.specs.declared.op.Op.{Op}
 use Rattle.messages.specs.rule.Shapes.{ShapeFields}
 use Rattle.thread_runs.specs.code.Awaited.{AreMet}
-use Rattle.thread_runs.specs.rule.Denials.{ClusterMembers, MayAllCome, MayCallCome, MayCome, after_line, declares, fails_in}
+use Rattle.thread_runs.specs.rule.Runs.{ClusterMembers, MayAllCome, MayCallCome, MayCome, after_line, declares, fails_in}
 
 lt_trans : (a b c : ℕ) → nat_lt b c ≡ true → a ≤ b → nat_lt a c ≡ true
 lt_trans a b c h le = grind (arith, nat_tests)

@@ -7,8 +7,7 @@ use Rattle.std.proofs.lemmas.List.Elements.{All-contains, All-nil, All-push}
 use Rattle.lockscript.specs.declared.script_line.ScriptCommand.{ScriptCommand}
 use Rattle.thread_runs.specs.declared.line_outcome.LineOutcome.TheVariants.{Left}
 use Rattle.thread_runs.specs.declared.played_line.PlayedLine.{PlayedLine}
-use Rattle.thread_runs.specs.rule.Cuts.{IsBarred, is_open}
-use Rattle.thread_runs.specs.rule.Lines.{asker}
+use Rattle.thread_runs.specs.rule.Runs.{IsBarred, is_open, asker}
 
 -- one of the first lines is an open call of this process
 abbrev pub Opened : List PlayedLine → ℕ → ℕ × ℕ → Type 0

@@ -5,7 +5,7 @@ use Rattle.std.proofs.Common.{ap, sym, ◌∙◌, ◌⊎◌, arith, ⊎_elim, in
 use Rattle.std.proofs.lemmas.Bool.{cases_order, cases_Bool}
 use Rattle.lockscript.specs.declared.script_line.ScriptCommand.{ScriptCommand}
 use Rattle.thread_runs.specs.declared.played_line.PlayedLine.{PlayedLine}
-use Rattle.thread_runs.specs.rule.Lines.{begins, ends, Precedes}
+use Rattle.thread_runs.specs.rule.Runs.{begins, ends, Precedes}
 
 -- the first lines stand in phases: the greatest position of their entries, and that up to the last line that separates phases
 pub record Passed (is_between : ScriptCommand → Bool) (lines : List PlayedLine) (count all earlier : ℕ) : Type 0 where

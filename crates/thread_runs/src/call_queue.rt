@@ -1,12 +1,9 @@
 //! The calls that a process makes in a phase, in order.
 use crate::line_outcome::LineOutcome;
-use actors::call_error::CallError;
-use actors::client::Client;
-use actors::gate::Gate;
-use book::receipt::Receipt;
-use book::trail_name::Name;
-use lockscript::play_error::PlayError;
-use model::op::Op;
+use actors::{CallError, Client, Gate};
+use book::{Name, Receipt};
+use lockscript::PlayError;
+use model::Op;
 use std::alloc::{AllocError, Global};
 use std::collections::VecDeque;
 
@@ -19,23 +16,25 @@ pub(crate) struct NextCall<'a, J: Name, G: Gate> {
     pub(crate) client: Option<Client<'a, J, G>>,
 }
 
-/// The calls that a process has still to make in a phase, in order, and its client while no call is open. It also
-/// knows whether the next call that is added needs a new client, whether a thread makes the calls, the outcomes so
-/// far, and why no more calls are made, if an error ended them.
+/// The part of a process of the node in a phase: the calls that it has still to make, in order, and its client while
+/// no call is open. It also knows whether the next call that is added needs a new client, whether a thread makes the
+/// calls, the outcomes so far, and why no more calls are made, if an error ended them.
 #[derive(Drop)]
 pub(crate) struct CallQueue<'a, J: Name, G: Gate> {
+    node: u8,
     calls: VecDeque<NextCall<'a, J, G>>,
     client: Option<Client<'a, J, G>>,
-    needs_client: bool,
+    pub(crate) needs_client: bool,
     has_thread: bool,
     outcomes: Vec<(usize, LineOutcome)>,
     stopped: Option<PlayError>,
 }
 
 impl<'a, J: Name, G: Gate> CallQueue<'a, J, G> {
-    /// A queue without calls and without a client.
-    pub(crate) fn new(alloc: Global) -> CallQueue<'a, J, G> {
+    /// The part of a process of the node, without calls and without a client.
+    pub(crate) fn new(alloc: Global, node: u8) -> CallQueue<'a, J, G> {
         CallQueue {
+            node,
             calls: VecDeque::new(alloc),
             client: None,
             needs_client: true,
@@ -45,14 +44,10 @@ impl<'a, J: Name, G: Gate> CallQueue<'a, J, G> {
         }
     }
 
-    /// Whether the next call that is added needs a new client.
-    pub(crate) fn needs_client(&self) -> bool {
-        self.needs_client
-    }
-
-    /// Drops the client for calls that are added later: its node begins again.
-    pub(crate) fn lose_client(&mut self) {
-        self.needs_client = true;
+    /// Notes that the node has begun again. If it is the process's node, the client is dropped for calls that are
+    /// added later.
+    pub(crate) fn learn_restart(&mut self, node: u8) {
+        self.needs_client = self.needs_client || self.node == node;
     }
 
     /// Adds a call, with a new client if it needs one.

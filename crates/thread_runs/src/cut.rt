@@ -2,12 +2,11 @@
 ghost use Rattle.std.specs.Prelude.{◌≡◌, ◌≢◌, ◌⊎◌, ◌↔◌, ◌++◌, ◌∷◌, [], true, IfOk, IsTrue, Some, if◌then◌else◌};
 ghost use Rattle.std.specs.List.{Contains};
 ghost use Rattle.thread_runs.specs.declared.line_outcome.LineOutcome.TheVariants.{Left};
-ghost use Rattle.thread_runs.specs.rule.Cuts.{AreBarred, is_open, name_at};
-ghost use Rattle.thread_runs.specs.rule.Lines.{asker, parts};
+ghost use Rattle.thread_runs.specs.rule.Runs.{AreBarred, is_open, name_at, asker, parts};
 
 use crate::played_line::PlayedLine;
-use messages::entry::Entry;
-use model::call::CallId;
+use messages::Entry;
+use model::CallId;
 use std::alloc::{AllocError, Global};
 
 /// The name of the call that the entry at the position, from 1, makes.

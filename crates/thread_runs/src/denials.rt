@@ -3,26 +3,21 @@
 ghost use Rattle.std.specs.Prelude.{◌≡◌, ◌⊎◌, ℕ, Bool, List, ◌∷◌, Some, None, Ok, Err, max, unwrap_or, if◌then◌else◌, ◌==◌, true, false, IfOk, IfErr, OnOk, OnErr, IsTrue};
 ghost use Rattle.std.specs.BTreeMap as tree;
 ghost use Rattle.std.specs.Ordering.{nat_cmp};
-ghost use Rattle.thread_runs.specs.rule.Lines.{parts};
+ghost use Rattle.thread_runs.specs.rule.Runs.{parts, MayAllCome, MayCallCome, MayChangeCome, MayCome, after_line, changed_by, declares, first_of, has_call, has_process, if_made};
 ghost use Rattle.lockscript.specs.declared.script_line.ScriptCommand.{ScriptCommand};
 ghost use Rattle.thread_runs.specs.declared.line_outcome.LineOutcome.TheVariants.{Denied};
 ghost use Rattle.thread_runs.specs.declared.played_line.PlayedLine.{PlayedLine};
 ghost use Rattle.thread_runs.specs.code.Awaited.{AreMet, members_of};
-ghost use Rattle.thread_runs.specs.rule.Denials.{MayAllCome, MayCallCome, MayChangeCome, MayCome, after_line, changed_by, declares, first_of, has_call, has_process, if_made};
 ghost use Rattle.node_core.specs.rule.Calls.{is_in_shape};
 ghost use Rattle.messages.specs.rule.Messages.{is_within};
-ghost use Rattle.messages.specs.rule.Versions.{may_rebuild};
+ghost use Rattle.messages.specs.rule.Shapes.{may_rebuild};
 ghost use Rattle.messages.specs.declared.refusal.Refused.TheVariants as refusal;
 
-use crate::line_outcome::LineOutcome;
-use crate::played_line::PlayedLine;
-use actors::call_error::CallError;
-use lockscript::script_line::ScriptCommand;
-use messages::members::Members;
-use messages::refusal::Refused;
-use messages::shape::Shape;
-use model::limits::MOST_PROCESSES;
-use model::op::{Op, ProcessCall};
+use crate::{LineOutcome, PlayedLine};
+use actors::CallError;
+use lockscript::ScriptCommand;
+use messages::{Members, Refused, Shape};
+use model::{MOST_PROCESSES, Op, ProcessCall};
 use std::alloc::{AllocError, Global};
 use std::collections::BTreeMap;
 

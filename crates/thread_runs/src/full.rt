@@ -1,20 +1,14 @@
 //! The test whether a journal is that of a script and has no room for another entry.
 ghost use Rattle.std.specs.Prelude.{◌≡◌, true, List, IfOk};
 ghost use Rattle.thread_runs.specs.declared.played_line.PlayedLine.{PlayedLine};
-ghost use Rattle.thread_runs.specs.rule.Lines.{AreLinesOf};
-ghost use Rattle.thread_runs.specs.rule.Runs.{IsFullJournal};
+ghost use Rattle.thread_runs.specs.rule.Runs.{AreLinesOf, IsFullJournal};
 ghost use Rattle.cluster_core.specs.rule.Histories.{HasOneHistory};
 
-use crate::indexed_command::{IndexedCommand, asked_in, by_asker};
-use crate::line_outcome::LineOutcome;
-use crate::played_line::PlayedLine;
-use crate::thread_run::are_lines_of;
-use actors::call_error::CallError;
-use cluster_core::journal::Journal;
-use cluster_core::world::JOURNAL_LIMIT;
-use lockscript::script::Script;
-use lockscript::script_line::{ScriptCommand, ScriptLine};
-use messages::entry::Entry;
+use crate::{IndexedCommand, LineOutcome, PlayedLine, are_lines_of, asked_in, by_asker};
+use actors::CallError;
+use cluster_core::{JOURNAL_LIMIT, Journal};
+use lockscript::{Script, ScriptCommand, ScriptLine};
+use messages::Entry;
 use std::alloc::{AllocError, Global};
 
 /// Whether the journal is of a run of the script and has no room for another entry. Contracts know nothing of the

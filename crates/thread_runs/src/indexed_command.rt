@@ -3,12 +3,11 @@ ghost use Rattle.std.specs.Prelude.{◌≡◌, ◌↔◌, true, IfOk, IsTrue, fi
 ghost use Rattle.std.specs.List.Sorted.{IsSortedByKey};
 ghost use Rattle.std.specs.Ordering.{nat_cmp, ordering_then};
 ghost use Rattle.lockscript.specs.declared.script_line.ScriptCommand.{ScriptCommand};
-ghost use Rattle.thread_runs.specs.rule.Lines.{AreMade, asked_at, asked_by, asked_in, asker, command_of, has_asker, made_by};
+ghost use Rattle.thread_runs.specs.rule.Runs.{AreMade, asked_at, asked_by, asked_in, asker, command_of, has_asker, made_by};
 
 use crate::played_line::PlayedLine;
-use lockscript::script_line::ScriptCommand;
-use messages::entry::Entry;
-use messages::event::{Event, MemberEvent, NodeInput};
+use lockscript::ScriptCommand;
+use messages::{Entry, Event, MemberEvent, NodeInput};
 use std::alloc::{AllocError, Global};
 
 /// The command of a script's line, and the index, from 0, of the entry that it made.

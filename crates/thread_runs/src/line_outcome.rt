@@ -1,14 +1,12 @@
 //! The outcome of a script's line.
 ghost use Rattle.std.specs.Prelude.{◌≡◌};
-ghost use Rattle.thread_runs.specs.rule.Cuts.{is_cut, is_open, killed_by, open_by};
-ghost use Rattle.thread_runs.specs.rule.Lines.{begins, code_of, ends, receipt_of};
+ghost use Rattle.thread_runs.specs.rule.Runs.{is_cut, is_open, killed_by, open_by, begins, code_of, ends, receipt_of};
 
 use crate::cut::name_at;
-use actors::call_error::CallError;
-use book::receipt::Receipt;
-use messages::entry::Entry;
-use messages::refusal::Refused;
-use model::call::CallId;
+use actors::CallError;
+use book::Receipt;
+use messages::{Entry, Refused};
+use model::CallId;
 
 /// The outcome of a script's line, as it is run on threads.
 #[derive(Clone, Copy, Debug)]

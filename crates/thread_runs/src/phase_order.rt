@@ -1,6 +1,6 @@
 //! The test whether lines of a script stand in phases.
 ghost use Rattle.std.specs.Prelude.{◌≡◌, ◌<◌, ℕ, max, Some, unwrap_or, if◌then◌else◌, IfSome, IsTrue};
-ghost use Rattle.thread_runs.specs.rule.Lines.{ArePhases, begins, ends, parts};
+ghost use Rattle.thread_runs.specs.rule.Runs.{ArePhases, begins, ends, parts};
 
 use crate::played_line::PlayedLine;
 

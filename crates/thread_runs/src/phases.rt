@@ -1,21 +1,12 @@
 //! The phases of a script, run one after the other on a cluster.
-use crate::line_outcome::LineOutcome;
-use crate::manner::Manner;
-use crate::phase_calls::PhaseCalls;
-use crate::played_line::PlayedLine;
-use crate::run_watcher::RunWatcher;
-use actors::call_error::CallError;
-use actors::client::Client;
-use actors::cluster::Cluster;
-use actors::gate::Gate;
-use book::receipt::Receipt;
-use book::trail_name::Name;
-use lockscript::play_error::PlayError;
-use lockscript::script_line::{ScriptCommand, ScriptLine};
-use messages::refusal::Refused;
+use crate::{CallQueue, LineOutcome, Manner, PlayedLine, RunWatcher};
+use actors::{CallError, Client, Cluster, Gate};
+use book::{Name, Receipt};
+use lockscript::{PlayError, ScriptCommand, ScriptLine};
+use messages::Refused;
 use std::alloc::Global;
 use std::collections::BTreeMap;
-use std::sync::Wait;
+use std::sync::{Mutex, Wait};
 use std::thread::Threads;
 use std::time::Clock;
 
@@ -33,7 +24,7 @@ pub(crate) struct Phases<'a, 'b, J: Name, G: Gate> {
     is_over: bool,
     lines: Vec<PlayedLine>,
     first: usize,
-    parts: Vec<PhaseCalls<'a, J, G>>,
+    parts: Vec<Mutex<CallQueue<'a, J, G>>>,
     places: BTreeMap<(u8, u16), usize>,
     idle: BTreeMap<(u8, u16), Client<'a, J, G>>,
     last: Option<Receipt>,
@@ -102,7 +93,10 @@ impl<'a, 'b, J: Name + Send + Sync, G: Gate + Sync> Phases<'a, 'b, J, G> {
         if self.places.insert((node, pid), self.parts.len()).is_err() {
             return Err(PlayError::NoMemory);
         }
-        match self.parts.push(PhaseCalls::new(self.alloc, node)) {
+        match self
+            .parts
+            .push(Mutex::new(CallQueue::new(self.alloc, node)))
+        {
             Ok(()) => Ok(()),
             Err(_) => Err(PlayError::NoMemory),
         }
@@ -121,7 +115,7 @@ impl<'a, 'b, J: Name + Send + Sync, G: Gate + Sync> Phases<'a, 'b, J, G> {
         rt: &R,
         index: usize,
         command: ScriptCommand,
-        parts: &[PhaseCalls<'a, J, G>],
+        parts: &[Mutex<CallQueue<'a, J, G>>],
     ) -> Result<(), PlayError> {
         let outcome = self.change(rt, command, parts)?;
         self.note(index, outcome);
@@ -133,7 +127,7 @@ impl<'a, 'b, J: Name + Send + Sync, G: Gate + Sync> Phases<'a, 'b, J, G> {
         &mut self,
         rt: &R,
         command: ScriptCommand,
-        parts: &[PhaseCalls<'a, J, G>],
+        parts: &[Mutex<CallQueue<'a, J, G>>],
     ) -> Result<LineOutcome, PlayError> {
         let made = match command {
             ScriptCommand::Declare { node } => self.declare(rt, node),
@@ -176,12 +170,12 @@ impl<'a, 'b, J: Name + Send + Sync, G: Gate + Sync> Phases<'a, 'b, J, G> {
         &mut self,
         rt: &R,
         node: u8,
-        parts: &[PhaseCalls<'a, J, G>],
+        parts: &[Mutex<CallQueue<'a, J, G>>],
     ) -> Result<u32, Refused> {
         let position = self.cluster.restart(rt, node)?;
         self.idle.retain(|process, _| process.0 != node);
         for part in parts {
-            part.learn_restart(rt, node);
+            part.lock(rt).learn_restart(node);
         }
         Ok(position)
     }

@@ -1,16 +1,14 @@
 //! A line of a script with its outcome.
 ghost use Rattle.std.specs.Prelude.{◌≡◌, ◌↔◌, IsTrue};
 ghost use Rattle.thread_runs.specs.declared.line_outcome.LineOutcome.TheVariants.{Left};
-ghost use Rattle.thread_runs.specs.rule.Lines.{Fits, asker, is_call, is_change, made_by, may_be_denied, may_be_refused, parts, receipt_in, refused_in};
+ghost use Rattle.thread_runs.specs.rule.Runs.{Fits, asker, is_call, is_change, made_by, may_be_denied, may_be_refused, parts, receipt_in, refused_in};
 ghost use Rattle.lockscript.specs.declared.script_line.ScriptCommand.TheVariants.{Call, Settle};
 
-use crate::indexed_command::{IndexedCommand, asker_of};
-use crate::line_outcome::LineOutcome;
-use actors::call_error::CallError;
-use book::receipt::Receipt;
-use lockscript::refused_line::RefusedLine;
-use lockscript::script_line::{ScriptCommand, ScriptLine};
-use messages::refusal::Refused;
+use crate::{IndexedCommand, LineOutcome, asker_of};
+use actors::CallError;
+use book::Receipt;
+use lockscript::{RefusedLine, ScriptCommand, ScriptLine};
+use messages::Refused;
 
 /// A line of a script, and its outcome on threads.
 #[derive(Clone, Copy, Debug)]

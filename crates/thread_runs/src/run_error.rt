@@ -2,7 +2,7 @@
 ghost use Rattle.std.specs.Prelude.{◌≡◌};
 ghost use Rattle.thread_runs.specs.declared.run_error.RunError.TheVariants.{NoMemory};
 
-use cluster_core::journal::Journal;
+use cluster_core::Journal;
 use std::alloc::{AllocError, AllocFailed};
 use std::fmt;
 use thiserror::Error;

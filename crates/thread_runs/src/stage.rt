@@ -1,12 +1,10 @@
 //! The stage on which the threads of a phase play.
-use crate::phase_calls::PhaseCalls;
-use crate::run_watcher::RunWatcher;
-use actors::cluster::Cluster;
-use actors::gate::Gate;
-use book::trail_name::Name;
-use lockscript::play_error::PlayError;
-use std::sync::Wait;
+use crate::{CallQueue, RunWatcher};
+use actors::{Cluster, Gate};
+use book::Name;
+use lockscript::PlayError;
 use std::sync::atomic::{AtomicU64, Ordering};
+use std::sync::{Mutex, Wait};
 use std::thread;
 use std::thread::{Scope, Threads};
 use std::time::{Clock, Duration};
@@ -19,7 +17,7 @@ const LONGEST_PAUSE: u64 = 64;
 pub(crate) struct Stage<'s, 'a, J: Name, G: Gate, R> {
     pub(crate) rt: &'s R,
     pub(crate) cluster: &'s Cluster<'a, J, G>,
-    pub(crate) parts: &'s [PhaseCalls<'a, J, G>],
+    pub(crate) parts: &'s [Mutex<CallQueue<'a, J, G>>],
     pub(crate) playing: &'s AtomicU64,
 }
 
@@ -34,7 +32,7 @@ impl<'s, 'a: 's, J: Name + Send + Sync, G: Gate + Sync, R: Threads + Wait + Cloc
     pub(crate) fn start<E>(&self, scope: &Scope<'s, E>) -> Result<(), PlayError> {
         let (rt, cluster, playing) = (self.rt, self.cluster, self.playing);
         for part in self.parts {
-            if !part.begin(rt) {
+            if !part.lock(rt).begin() {
                 continue;
             }
             playing.fetch_add(1, Ordering::SeqCst);
@@ -80,14 +78,24 @@ impl<'s, 'a: 's, J: Name + Send + Sync, G: Gate + Sync, R: Threads + Wait + Cloc
     }
 }
 
-// Plays a part. Where it stops before its end, the cluster ends.
+// Plays a part: makes its calls in order, each after the reply to the one before, until none is left or one stays open
+// because the run was ended. Where an error ended the calls, the cluster ends.
 fn play<J: Name, G: Gate, R: Wait>(
     rt: &R,
     cluster: &Cluster<'_, J, G>,
-    part: &PhaseCalls<'_, J, G>,
+    part: &Mutex<CallQueue<'_, J, G>>,
     playing: &AtomicU64,
 ) {
-    if !part.play(rt) {
+    for _ in rt.forever() {
+        let next = part.lock(rt).next();
+        let Some((index, op, client)) = next else {
+            break;
+        };
+        let mut client = client;
+        let made = client.call(rt, op);
+        part.lock(rt).end_call(client, index, made);
+    }
+    if part.lock(rt).is_stopped() {
         cluster.stop();
     }
     playing.fetch_sub(1, Ordering::SeqCst);

@@ -1,25 +1,14 @@
 //! The result of running a script on threads.
 ghost use Rattle.std.specs.Prelude.{◌≡◌, ◌↔◌, true, false, All, IfOk, IsTrue, filter_map, map};
 ghost use Rattle.lockscript.specs.rule.Scripts.{LineFields};
-ghost use Rattle.thread_runs.specs.rule.Cuts.{AreBarred, IsUnanswered, is_cut, killed_by, open_by};
-ghost use Rattle.thread_runs.specs.rule.Denials.{MayAllCome, first_of};
-ghost use Rattle.thread_runs.specs.rule.Lines.{AreLinesOf, ArePhases, Fits, parts, receipt_in, refused_in};
-ghost use Rattle.thread_runs.specs.rule.Runs.{IsOfScript};
+ghost use Rattle.thread_runs.specs.rule.Runs.{AreBarred, IsUnanswered, is_cut, killed_by, open_by, MayAllCome, first_of, AreLinesOf, ArePhases, Fits, parts, receipt_in, refused_in, IsOfScript};
 
-use crate::cut::are_barred;
-use crate::denials::may_all_come;
-use crate::indexed_command::are_made;
-use crate::manner::Manner;
-use crate::phase_order::are_phases;
-use crate::played_line::PlayedLine;
-use crate::unanswered::are_unanswered;
-use book::receipt::Receipt;
-use cluster_core::journal::Journal;
-use lockscript::refused_line::RefusedLine;
-use lockscript::script::Script;
-use lockscript::script_line::ScriptLine;
-use messages::entry::Entry;
-use model::call::CallId;
+use crate::{Manner, PlayedLine, are_barred, are_made, are_phases, are_unanswered, may_all_come};
+use book::Receipt;
+use cluster_core::Journal;
+use lockscript::{RefusedLine, Script, ScriptLine};
+use messages::Entry;
+use model::CallId;
 use std::alloc::{AllocError, Global};
 use std::marker::Model;
 

@@ -10,27 +10,12 @@ ghost use Rattle.cluster_core.specs.rule.Safe.{IsSafe};
 ghost use Rattle.cluster_core.specs.rule.World.{first_world};
 ghost use Rattle.lockscript.specs.rule.ThreadLines.{bad_line};
 
-use crate::full::is_full;
-use crate::manner::Manner;
-use crate::phases::Phases;
-use crate::played_line::PlayedLine;
-use crate::run_error::RunError;
-use crate::run_watcher::RunWatcher;
-use crate::thread_run::ThreadRun;
-use actors::begun::{begin, start_all};
-use actors::cluster::Cluster;
-use actors::gate::Gate;
-use actors::seeded::Seeded;
-use book::book::Book;
-use book::new_trail::NewTrail;
-use book::seat::Seat;
-use book::trail_name::Name;
-use cluster_core::journal::Journal;
-use cluster_core::world::World;
-use lockscript::play_error::PlayError;
-use lockscript::script::Script;
-use lockscript::script_line::ScriptLine;
-use messages::shape::Shape;
+use crate::{Manner, Phases, PlayedLine, RunError, RunWatcher, ThreadRun, is_full};
+use actors::{Cluster, Gate, Seeded, begin, start_all};
+use book::{Book, Name, NewTrail, Seat};
+use cluster_core::{Journal, World};
+use lockscript::{PlayError, Script, ScriptLine};
+use messages::Shape;
 use std::alloc::{AllocError, Global};
 use std::marker::Brand;
 use std::sync::{Mutex, Wait};
@@ -191,11 +176,10 @@ fn run_on<J: Name + Send + Sync, G: Gate + Sync, R: Threads + Wait + Clock + Syn
 {
     let actors = u32::from(shape.nodes()) + u32::from(shape.files());
     let weathers = weathers_of(alloc, seed, actors)?;
-    let (begun, workers) = begin(alloc, shape, seats, weathers)?;
-    let shared = begun.shared(book, gate);
+    let (begun, inboxes) = begin(alloc, shape, seats)?;
     let cluster = Cluster::of(&begun, book, gate, gate.is_open());
     thread::scope(thread::scope_env(), rt, |scope| {
-        let all = start_all(scope, rt, &shared, workers);
+        let all = start_all(scope, rt, &cluster, inboxes, weathers);
         let played = if all {
             run_lines(rt, &cluster, lines, manner, watcher)
         } else {

@@ -4,10 +4,10 @@ ghost use Rattle.std.specs.HashSet.{contains};
 ghost use Rattle.model.specs.declared.call.CallId.{CallId};
 ghost use Rattle.model.specs.declared.reply.Reply.{Reply};
 ghost use Rattle.model.specs.contracts.call.CallIdPartialEq.TheImpl as derived;
-ghost use Rattle.thread_runs.specs.rule.Cuts.{IsUnanswered};
+ghost use Rattle.thread_runs.specs.rule.Runs.{IsUnanswered};
 
-use messages::entry::Entry;
-use model::call::CallId;
+use messages::Entry;
+use model::CallId;
 use std::alloc::{AllocError, Global};
 use std::collections::HashSet;
 

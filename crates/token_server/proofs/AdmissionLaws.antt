@@ -12,18 +12,16 @@ use Rattle.messages.specs.declared.outcome.Outcome.{Outcome}
 use Rattle.messages.specs.rule.Messages.{greatest_number, addressee, host_of, is_within, sending}
 use Rattle.model.specs.declared.call.CallId.{CallId}
 use Rattle.token_set.specs.rule.Tokens.{Token}
-use Rattle.token_set.proofs.SearchLaws.{some_passes-none, none_passes-from}
+use Rattle.token_set.proofs.TokenLaws.{some_passes-none, none_passes-from}
 use Rattle.token_server.specs.declared.token_queue.token_request.TokenRequest.{TokenRequest}
-use Rattle.token_server.specs.rule.Requests.{is_of_call, is_up_to}
+use Rattle.token_server.specs.rule.Requests.{is_of_call, is_up_to, meets}
 use Rattle.token_server.specs.rule.Rows.{Row, empty_row, is_awaited, row_above}
 use Rattle.token_server.specs.rule.State.{ServerState, begin, awaits, forgotten}
-use Rattle.token_server.specs.rule.Requests.{meets}
 use Rattle.token_server.specs.rule.Serve.{meets_some, admitted, conflicting_node, commanded, granted_to, revoked_from, served, with_more, and_then, each_served, ready, serve}
 use Rattle.token_server.specs.rule.Resends.{sending_first}
 use Rattle.token_server.specs.rule.Server.{with_a_row, request_of, enqueued_with, enqueued, asked, is_server, delivered, then_serve}
 use Rattle.token_server.specs.code.Admissions.{MeetsNone, ServesWhatMeetsNone}
-use Rattle.token_server.proofs.AdmitLaws.{Lists, admitted-append}
-use Rattle.token_server.proofs.AdmittingLaws.{neither}
+use Rattle.token_server.proofs.AdmittingLaws.{Lists, admitted-append, neither}
 
 abbrev Answer : Type 0
 Answer = Result (ServerState × List Message) StepError

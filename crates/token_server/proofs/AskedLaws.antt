@@ -4,11 +4,11 @@ use Rattle.std.proofs.Common.{refl, sym, ap, subst, ◌∙◌, inl, inr, arith}
 use Rattle.std.proofs.lemmas.Bool.Decides.{eqb_tells}
 use Rattle.intervals.specs.rule.Search.{first, some_passes}
 use Rattle.token_set.specs.rule.Tokens.{Token}
-use Rattle.token_set.proofs.SearchLaws.{some_passes-none, none_passes-from, first-same}
+use Rattle.token_set.proofs.TokenLaws.{some_passes-none, none_passes-from, first-same}
 use Rattle.messages.specs.declared.refusal.StepError.{StepError}
 use Rattle.messages.specs.declared.refusal.StepError.TheVariants.{Spent}
 use Rattle.messages.specs.declared.message.Message.{Message}
-use Rattle.messages.specs.rule.Epochs.{before_epoch}
+use Rattle.messages.specs.rule.Shapes.{before_epoch}
 use Rattle.messages.specs.rule.Messages.{greatest_number}
 use Rattle.token_server.specs.declared.token_queue.token_request.TokenRequest.{TokenRequest}
 use Rattle.token_server.specs.declared.known_nodes.known_change.KnownChange.{KnownChange}
@@ -17,8 +17,8 @@ use Rattle.token_server.specs.declared.known_nodes.known_change.Changed.{Changed
 use Rattle.token_server.specs.rule.Rows.{Row, is_hello, is_awaited, row_above}
 use Rattle.token_server.specs.rule.State.{ServerState, awaits, begin, with_row}
 use Rattle.token_server.specs.rule.Serve.{conflicting_node, commanded, granted_to, revoked_from, served, with_more, and_then, each_served}
-use Rattle.token_server.specs.code.Ready.{AreOfEpoch}
-use Rattle.token_server.specs.code.Changes.{row_or_empty, row_after, rows_after}
+use Rattle.token_server.specs.code.Edits.{AreOfEpoch}
+use Rattle.token_server.specs.code.Rows.{row_or_empty, row_after, rows_after}
 use Rattle.token_server.proofs.AdmissionLaws.{above-told}
 
 empty-told : (begin incarnation : ℕ) (row : Option Row) → is_awaited row ≡ false → is_awaited (row_or_empty begin incarnation row) ≡ false

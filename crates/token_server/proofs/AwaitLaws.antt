@@ -15,17 +15,15 @@ use Rattle.token_server.specs.declared.known_nodes.known_change.Changed.{Changed
 use Rattle.token_server.specs.rule.Rows.{Row, row_conflicts}
 use Rattle.token_server.specs.rule.State.{ServerState}
 use Rattle.token_server.specs.rule.Serve.{conflicting_node}
-use Rattle.token_server.specs.code.Changes.{may_bar, rows_after}
-use Rattle.token_server.specs.code.Obstacles.{frees, may_turn}
+use Rattle.token_server.specs.code.Rows.{may_bar, rows_after, rows_overlaid}
+use Rattle.token_server.specs.code.Admissions.{frees, may_turn}
 use Rattle.token_server.specs.rule.Obstacles.{obstacle, are_apart}
 use Rattle.token_server.specs.rule.RowParts.{rows_of}
 use Rattle.token_server.specs.rule.Parts.{ServerParts, server_state}
-use Rattle.token_server.specs.code.RowEdits.{rows_overlaid}
 use Rattle.token_server.specs.code.Edits.{reached}
-use Rattle.token_server.proofs.FreeLaws.{obstacle-changed}
+use Rattle.token_server.proofs.ObstacleLaws.{obstacle-changed}
 use Rattle.token_server.proofs.GrantLaws.{unopposed-none}
-use Rattle.token_server.proofs.AdmittingLaws.{meets-flip}
-use Rattle.token_server.proofs.FreedLaws.{meets-within}
+use Rattle.token_server.proofs.AdmittingLaws.{meets-flip, meets-within}
 use Rattle.token_server.proofs.KeepLaws.{apart-behind}
 use Rattle.token_server.proofs.ToldLaws.{list-at}
 use Rattle.token_server.proofs.TurnLaws.{take-next}

@@ -9,24 +9,18 @@ use Rattle.model.specs.declared.call.CallId.{CallId}
 use Rattle.token_server.specs.declared.token_queue.active_request.ActiveRequest.{ActiveRequest}
 use Rattle.token_server.specs.declared.token_queue.token_request.TokenRequest.{TokenRequest}
 use Rattle.token_server.specs.rule.Requests.{is_of_call, meets, requests_in}
-use Rattle.token_server.specs.code.Places.{request_at}
+use Rattle.token_server.specs.code.Admissions.{request_at, IsAdmitted}
 use Rattle.token_server.specs.rule.Actives.{requests_of}
 use Rattle.token_server.proofs.CallLaws.{same_call-refl}
-use Rattle.token_server.proofs.SlotLaws.{requests_in-append}
+use Rattle.token_server.proofs.PlaceLaws.{requests_in-append}
 use Rattle.token_server.proofs.WalkLaws.{requests_in-around, requests_in-more}
 use Rattle.token_server.specs.declared.gone.Gone.{Gone}
 use Rattle.token_server.specs.declared.sketch.Moved.{Moved}
 use Rattle.token_server.specs.declared.sketch.Moved.TheVariants.{Nothing, New, Again, Waiting, PutOff}
 use Rattle.token_server.specs.rule.Serve.{meets_some}
-use Rattle.token_server.specs.code.Admitting.{IsAdmitted}
 use Rattle.token_server.specs.rule.Obstacles.{all_stay}
-use Rattle.token_server.specs.code.Ready.{AreDistinct}
-use Rattle.token_server.specs.code.Sketches.{without, still_active, queue_moved}
-use Rattle.token_server.specs.code.Edits.{is_up_to_any, is_of_any, keeps}
-use Rattle.token_server.specs.code.Comes.{served_on, left_in, NeedsAllOf, HasEnded}
-use Rattle.token_server.proofs.StayLaws.{Stay}
-use Rattle.token_server.proofs.AdmittingLaws.{calls, calls-append, both-meet, meets-flip, or-end, admitted-stays, admitted-goes}
-use Rattle.token_server.proofs.FreedLaws.{distinct-before, stay-same, stay-at, stay-behind, stay-covered, admitted-rest, meets-within, ended-meets}
+use Rattle.token_server.specs.code.Edits.{AreDistinct, without, still_active, queue_moved, is_up_to_any, is_of_any, keeps, served_on, left_in, NeedsAllOf, HasEnded}
+use Rattle.token_server.proofs.AdmittingLaws.{Stay, calls, calls-append, both-meet, meets-flip, or-end, admitted-stays, admitted-goes, distinct-before, stay-same, stay-at, stay-behind, stay-covered, admitted-rest, meets-within, ended-meets}
 
 and-end : (b : Bool) → (b && true) ≡ b
 and-end true = refl

@@ -9,9 +9,9 @@ use Rattle.model.specs.declared.call.CallId.{CallId}
 use Rattle.messages.specs.rule.Messages.{same_call}
 use Rattle.token_server.specs.declared.token_queue.token_request.TokenRequest.{TokenRequest}
 use Rattle.token_server.specs.rule.Requests.{LineParts, is_of_call, is_up_to, requests_in, AreOfDistinctCalls}
-use Rattle.token_server.specs.code.Places.{SlotParts, request_at, unless, IsFront}
+use Rattle.token_server.specs.code.Admissions.{SlotParts, request_at, unless, IsFront}
 use Rattle.token_server.proofs.CallLaws.{same_call-true, same_call-refl, same_call-symm}
-use Rattle.token_server.proofs.SlotLaws.{requests_in-append, requests_in-unless}
+use Rattle.token_server.proofs.PlaceLaws.{requests_in-append, requests_in-unless}
 use Rattle.token_server.proofs.WalkLaws.{requests_in-more}
 
 -- the front stays the front where a request comes last

@@ -1,4 +1,4 @@
--- All requests of a server: no two are of one call, and none is of an incarnation known to be dead.
+-- All requests of a server: no two are of one call, and none is of an incarnation that is gone.
 use Rattle.std.specs.Prelude.{◌≡◌, ℕ, ◌+◌, ◌-◌, ◌<◌, ◌≤◌, Bool, true, false, not, cond, ◌&&◌, ◌||◌, ◌==◌, nat_le, max, List, [], ◌∷◌, ◌++◌, All, filter, find, IfSome, Option, Some, None}
 use Rattle.std.specs.List.{list_any}
 use Rattle.std.specs.Option.{option_map}
@@ -13,12 +13,10 @@ use Rattle.intervals.specs.rule.Bytes.{Range}
 use Rattle.messages.specs.declared.message.Message.{Message}
 use Rattle.messages.specs.declared.message.Message.TheVariants.{Request, Grant, Revoke, Taken, Released, Conflict, Deny, Freed, Hello, Report}
 use Rattle.messages.specs.declared.token_run.TokenRun.{TokenRun}
-use Rattle.messages.specs.rule.Reports.{reported}
+use Rattle.messages.specs.rule.Messages.{reported, same_blocking, host_of}
 use Rattle.messages.specs.declared.message.Blocking.TheVariants.{Yes}
-use Rattle.messages.specs.rule.Messages.{same_blocking, host_of}
 use Rattle.model.specs.rule.Owners.{host_of_call}
-use Rattle.token_set.specs.rule.Tokens.{Token}
-use Rattle.token_set.specs.rule.Releases.{lowered}
+use Rattle.token_set.specs.rule.Tokens.{Token, lowered}
 use Rattle.token_server.specs.declared.token_queue.token_request.TokenRequest.{TokenRequest}
 use Rattle.token_server.specs.rule.Requests.{is_of_call, is_up_to}
 use Rattle.token_server.proofs.CallLaws.{same_call-true}
@@ -26,10 +24,12 @@ use Rattle.token_server.specs.rule.Rows.{Row, empty_row, row_above, is_grant, re
 use Rattle.token_server.specs.rule.State.{ServerState, begin, forgotten, requests, requeued}
 use Rattle.token_server.specs.rule.Server.{Change, with_a_row, request_of, enqueued_with, enqueued, asked, acknowledged, ended, put_off, postponed, denial, row_of_host, taken, released, in_conflict, heard, freed, delivered}
 use Rattle.token_server.specs.rule.Serve.{meets_some, admitted, ready}
-use Rattle.token_server.specs.code.Ready.{IsOrderly}
-use Rattle.token_server.proofs.AdmitLaws.{Lists}
-use Rattle.token_server.proofs.AdmittingLaws.{calls, calls-append, calls-cons, neither}
+use Rattle.token_server.specs.code.Edits.{IsOrderly, AreDistinct, without, held_without}
+use Rattle.token_server.proofs.AdmittingLaws.{Lists, calls, calls-append, calls-cons, neither}
 use Rattle.token_server.proofs.CareLaws.{AreRequests, requests-parts, ready-each, find-each, find-passes, enqueued_with-each, requeued-each, ended-each, postponed-each, forgotten-each, forgotten-young}
+use Rattle.token_server.specs.declared.token_queue.active_request.ActiveRequest.{ActiveRequest}
+use Rattle.token_server.specs.rule.Actives.{requests_of, waiting_for}
+use Rattle.token_server.proofs.TurnLaws.{waiting_for-requests, without-requests}
 
 -- the number of a call's requests is the sum of those active, queued and waiting
 pub calls-kinds : (call : CallId) (s : ServerState) → calls call (requests s) ≡ calls call s.active + (calls call s.queue + calls call s.waiting)
@@ -405,3 +405,13 @@ orderly-ready s o = record {
   living = ready-each (Living s.dead) s o.living;
   counted = o.counted;
 }
+
+-- no two of the active requests that are not dropped are of one call
+pub distinct-kept : (dropped : Option (ℕ × ℕ)) (ats : List ℕ) (held : List ActiveRequest) → AreDistinct (requests_of held) → AreDistinct (requests_of (held_without dropped (waiting_for ats held)))
+distinct-kept None ats held distinct = subst AreDistinct (sym (waiting_for-requests ats held)) distinct
+distinct-kept (Some d) ats held distinct =
+    subst AreDistinct (sym (without-requests (Some d) (waiting_for ats held) ∙ ap (without (Some d)) (waiting_for-requests ats held)))
+    (λ call.
+    let fewer = calls-fewer call (λ r. not (is_up_to d.0 d.1 r)) (requests_of held) in
+    let few = distinct call in
+    omega (arith, fewer, few))

@@ -27,20 +27,14 @@ use Rattle.token_server.specs.rule.Rows.{Row, is_awaited}
 use Rattle.token_server.specs.rule.State.{ServerState, awaits}
 use Rattle.token_server.specs.rule.Serve.{meets_some, admitted, served, with_more, and_then, each_served, ready, serve}
 use Rattle.token_server.specs.rule.Resends.{sending_first}
-use Rattle.token_server.specs.code.Told.{with_told}
-use Rattle.token_server.specs.rule.Obstacles.{obstacle, are_apart, is_idle}
-use Rattle.token_server.specs.code.Admitting.{all_but}
-use Rattle.token_server.specs.rule.Obstacles.{all_stay}
+use Rattle.token_server.specs.code.Edits.{with_told, AreDistinct, IsOrderly, IsReady, IsServer, dropped, without, still_active, queue_moved, waiting_moved, sketched, held_still, held_without, held_after, queue_after, waiting_after, IsDrafted, drafted, many_moved, HasRoom, HeldHasRoom, IsNewCall, PartsFit, Fits, made}
+use Rattle.token_server.specs.rule.Obstacles.{obstacle, are_apart, is_idle, all_stay}
+use Rattle.token_server.specs.code.Admissions.{all_but}
 use Rattle.token_server.specs.rule.RowParts.{rows_of, deaths_of}
 use Rattle.token_server.specs.rule.Parts.{ServerParts, server_state}
-use Rattle.token_server.specs.code.Ready.{AreDistinct, IsOrderly, IsReady, IsServer}
-use Rattle.token_server.specs.code.Sketches.{dropped, without, still_active, queue_moved, waiting_moved, sketched}
-use Rattle.token_server.specs.code.RowEdits.{deaths_overlaid, given_of, given_rows}
-use Rattle.token_server.specs.code.Edits.{held_still, held_without, held_after, queue_after, waiting_after, IsDrafted, drafted, many_moved, HasRoom, HeldHasRoom, IsNewCall, PartsFit, Fits, made}
-use Rattle.token_server.proofs.AdmitLaws.{ready-is}
+use Rattle.token_server.specs.code.Rows.{deaths_overlaid, given_of, given_rows}
+use Rattle.token_server.proofs.AdmittingLaws.{ready-is, all_but-none, calls, calls-append, calls-cons, apart-fewer, admitted-keeps_apart, admitted-leaves, Stay}
 use Rattle.token_server.proofs.AskedLaws.{none-after, served-awaits, served-counted}
-use Rattle.token_server.proofs.AdmittingLaws.{all_but-none, calls, calls-append, calls-cons, apart-fewer, admitted-keeps_apart, admitted-leaves}
-use Rattle.token_server.proofs.StayLaws.{Stay}
 use Rattle.token_server.proofs.TurnLaws.{held_after-requests}
 use Rattle.token_server.proofs.ObstacleLaws.{served-silent}
 use Rattle.token_server.proofs.OrderlyLaws.{Living, calls-kinds, calls-one, orderly-ready}

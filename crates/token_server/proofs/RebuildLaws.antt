@@ -4,16 +4,14 @@ use Rattle.std.proofs.Common.{refl, sym, ap, subst, ◌∙◌, inl, inr, arith}
 use Rattle.std.proofs.lemmas.Bool.{cases_lt, and_from, le-leb, lt-leb}
 use Rattle.std.proofs.lemmas.Option.{slice_get_past}
 use Rattle.model.specs.declared.mode.Mode.TheVariants.{Read}
-use Rattle.messages.specs.rule.Shapes.{ShapeFields}
-use Rattle.messages.specs.rule.Epochs.{before_epoch}
+use Rattle.messages.specs.rule.Shapes.{ShapeFields, before_epoch}
 use Rattle.messages.specs.rule.Messages.{is_within}
-use Rattle.messages.specs.rule.Parts.{MembersParts, incarnation_of, members_state}
-use Rattle.messages.proofs.Numbered.{numbered-outside}
+use Rattle.messages.specs.rule.Members.{MembersParts, incarnation_of, members_state}
+use Rattle.messages.proofs.Rules.{numbered-outside}
 use Rattle.token_server.specs.declared.known_nodes.known_node.KnownNode.{KnownNode}
 use Rattle.token_server.specs.rule.Rows.{Row, awaited_row, row_conflicts_at}
 use Rattle.token_server.specs.rule.RowParts.{row_of, dead_of, known_node_at, rows_of, deaths_of}
-use Rattle.token_server.specs.code.Marks.{NoneExclusive}
-use Rattle.token_server.specs.code.Rebuilds.{rebuilt_row, rebuilt_dead, AreRebuilt, rebuilt_rows}
+use Rattle.token_server.specs.code.Rows.{NoneExclusive, rebuilt_row, rebuilt_dead, AreRebuilt, rebuilt_rows}
 
 within-cluster : (nodes k : ℕ) → k < nodes → is_within nodes (suc k) ≡ true
 within-cluster nodes k below = and_from (nat_le 1 (suc k)) (nat_le (suc k) nodes) (le-leb 1 (suc k) (omega arith)) (le-leb (suc k) nodes (omega arith))

@@ -6,7 +6,7 @@ use Rattle.std.proofs.Common.{refl, sym, ap, ◌∙◌, inl, inr, subst, append-
 use Rattle.std.proofs.lemmas.List.{take-append-drop}
 use Rattle.std.proofs.lemmas.Bool.Decides.{eqb_tells}
 use Rattle.std.proofs.lemmas.Option.{none-some, same_Some}
-use Rattle.messages.specs.rule.Wants.{Wants}
+use Rattle.messages.specs.rule.TokenRuns.{Wants}
 use Rattle.messages.specs.declared.refusal.StepError.{StepError}
 use Rattle.messages.specs.declared.refusal.StepError.TheVariants.{Spent}
 use Rattle.messages.specs.declared.message.Message.{Message}
@@ -20,15 +20,12 @@ use Rattle.token_server.specs.rule.Rows.{Commands, Row}
 use Rattle.token_server.specs.rule.State.{ServerState, with_row, begin}
 use Rattle.token_server.specs.declared.known_nodes.known_node.KnownNode.{KnownNode}
 use Rattle.token_server.specs.declared.known_nodes.new_row.NewRow.{NewRow}
-use Rattle.token_server.specs.code.Sent.{next_number, told_commands, promised}
+use Rattle.token_server.specs.code.Rows.{next_number, told_commands, promised, given_to_known_node, given_rows, given_of, rows_overlaid}
 use Rattle.token_server.specs.rule.RowParts.{known_node_at}
 use Rattle.token_server.specs.declared.known_nodes.row_edit.RowEdit.{RowEdit}
-use Rattle.token_server.specs.code.RowEdits.{given_to_known_node, given_rows, given_of, rows_overlaid}
-use Rattle.token_server.specs.code.Edits.{with_given}
-use Rattle.token_server.proofs.ServeLaws.{each_served-append}
+use Rattle.token_server.specs.code.Edits.{with_given, commands_of, told_to, row_told, with_told, commands_told}
+use Rattle.token_server.proofs.GrantLaws.{each_served-append}
 use Rattle.token_server.specs.rule.Serve.{narrowed, granted_span, commanded, granted_to, revoked_from, served, with_more, and_then, each_served}
-use Rattle.token_server.specs.code.Sketches.{commands_of}
-use Rattle.token_server.specs.code.Told.{told_to, row_told, with_told, commands_told}
 
 abbrev pub Answer : Type 0
 Answer = Result (ServerState × List Message) StepError

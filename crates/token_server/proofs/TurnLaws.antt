@@ -27,15 +27,11 @@ use Rattle.token_server.specs.declared.known_nodes.server_command.Order.TheVaria
 use Rattle.token_server.specs.code.Orders.{message_of}
 use Rattle.token_server.specs.rule.Rows.{Commands, Row, row_conflicts}
 use Rattle.token_server.specs.rule.State.{ServerState, with_row, begin}
-use Rattle.token_server.specs.code.Sent.{next_number, told_commands}
-use Rattle.token_server.specs.code.Sketches.{commands_of, without, still_active}
+use Rattle.token_server.specs.code.Rows.{next_number, told_commands}
+use Rattle.token_server.specs.code.Edits.{commands_of, without, still_active, told_to, row_told, with_told, commands_told, cut, is_up_to_any, is_of_any, keeps, held_still, held_without, held_after, kept, kept_of, IsTurn, AreServed}
 use Rattle.token_server.specs.rule.Serve.{narrowed, granted_span, conflicting_node, commanded, granted_to, revoked_from, served, each_served}
 use Rattle.token_server.specs.rule.Obstacles.{obstacle, are_apart, is_idle}
-use Rattle.token_server.specs.code.Told.{told_to, row_told, with_told, commands_told, cut}
-use Rattle.token_server.specs.code.Edits.{is_up_to_any, is_of_any, keeps, held_still, held_without, held_after}
-use Rattle.token_server.specs.code.Turns.{kept, kept_of, IsTurn, AreServed}
-use Rattle.token_server.proofs.GrantLaws.{conflicts_at}
-use Rattle.token_server.proofs.CutLaws.{HasByte, IsLeft, left-more}
+use Rattle.token_server.proofs.GrantLaws.{conflicts_at, HasByte, IsLeft, left-more}
 use Rattle.token_server.proofs.ObstacleLaws.{obstacle-same, served-silent}
 use Rattle.token_server.proofs.KeepLaws.{StandSame, served-same}
 use Rattle.token_server.proofs.CareLaws.{All-right}

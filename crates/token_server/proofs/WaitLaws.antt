@@ -14,11 +14,9 @@ use Rattle.messages.specs.declared.event.ServerInput.TheVariants.{Resend, Learn}
 use Rattle.messages.specs.declared.message.Message.{Message}
 use Rattle.messages.specs.declared.message.Message.TheVariants.{Request, Grant, Revoke, Taken, Released, Conflict, Deny, Freed, Hello, Report}
 use Rattle.messages.specs.declared.token_run.TokenRun.{TokenRun}
-use Rattle.messages.specs.rule.Reports.{reported}
+use Rattle.messages.specs.rule.Messages.{reported, addressee, host_of, is_within, same_call, sending}
 use Rattle.messages.specs.declared.outcome.Outcome.{Outcome}
-use Rattle.messages.specs.rule.Messages.{addressee, host_of, is_within, same_call, sending}
-use Rattle.token_set.specs.rule.Tokens.{Token}
-use Rattle.token_set.specs.rule.Releases.{lowered}
+use Rattle.token_set.specs.rule.Tokens.{Token, lowered}
 use Rattle.token_server.specs.declared.token_queue.token_request.TokenRequest.{TokenRequest}
 use Rattle.token_server.specs.declared.event.ServerEvent.TheVariants.{Input, Deliver}
 use Rattle.token_server.specs.rule.Requests.{is_of_call, is_up_to}
@@ -27,7 +25,7 @@ use Rattle.token_server.specs.rule.State.{ServerState, awaits, forgotten, reques
 use Rattle.token_server.specs.rule.Serve.{meets_some, admitted, conflicting_node, commanded, granted_to, revoked_from, served, with_more, and_then, each_served, ready, serve}
 use Rattle.token_server.specs.rule.Resends.{outstanding, sending_first}
 use Rattle.token_server.specs.rule.Server.{Change, with_a_row, request_of, enqueued_with, enqueued, asked, acknowledged, ended, put_off, postponed, denial, taken, released, in_conflict, heard, row_of_host, freed, delivered, is_server, then_serve}
-use Rattle.token_server.specs.code.Waiting.{KeepsWhatWaits}
+use Rattle.token_server.specs.code.Admissions.{KeepsWhatWaits}
 
 -- the list has a request of the call
 abbrev pub Has : CallId → List TokenRequest → Type 0

@@ -5,8 +5,8 @@ use Rattle.std.proofs.lemmas.List.{append-nil, drop_more, take_more, get_or_read
 use Rattle.token_server.specs.contracts.token_queue.token_request.TokenRequestPartialEq.TheImpl as derived
 use Rattle.token_server.specs.declared.token_queue.token_request.TokenRequest.{TokenRequest}
 use Rattle.token_server.specs.rule.Requests.{requests_in}
-use Rattle.token_server.specs.code.Places.{request_at}
-use Rattle.token_server.proofs.SlotLaws.{requests_in-append}
+use Rattle.token_server.specs.code.Admissions.{request_at}
+use Rattle.token_server.proofs.PlaceLaws.{requests_in-append}
 
 -- the requests from a place on: that of its slot, if it holds one, and then those of later slots
 pub requests_in-from : (slots : List (Option TokenRequest)) (place : ℕ) → place < length slots → requests_in (drop place slots) ≡ requests_in (request_at slots place ∷ drop (place + 1) slots)

@@ -7,7 +7,7 @@ use crate::known_nodes::row_edit::RowEdit;
 use crate::sketch::Moved;
 use crate::token_queue::active_request::ActiveRequest;
 use crate::token_queue::line::Line;
-use messages::outcome::Outcome;
+use messages::Outcome;
 
 /// The whole change of a step. What the event changes before the server serves is its draft: the edit of a node's
 /// row, if there is one; whether a node has not reported its token then; and the change of the requests, made in this

@@ -2,12 +2,11 @@
 ghost use Rattle.std.specs.Prelude.{◌≡◌, ◌&&◌, ◌∷◌, []};
 ghost use Rattle.std.specs.List.{list_any};
 ghost use Rattle.token_server.specs.rule.Requests.{meets};
-ghost use Rattle.token_server.specs.code.Edits.{is_up_to_any, is_of_any, keeps};
-ghost use Rattle.token_server.specs.code.Comes.{left_in};
+ghost use Rattle.token_server.specs.code.Edits.{is_up_to_any, is_of_any, keeps, left_in};
 
 use crate::token_queue::token_request::TokenRequest;
 use intervals::span::Span;
-use model::call::CallId;
+use model::CallId;
 
 /// The requests that a step removes before it admits others from the queue: those of a node up to an incarnation, in
 /// every list, and the active request of a call.

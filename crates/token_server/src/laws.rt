@@ -1,7 +1,5 @@
 //! Laws of token servers, each the contract of a function that does nothing.
-ghost use Rattle.token_server.specs.code.Grants.{GrantsWhatIsFree};
-ghost use Rattle.token_server.specs.code.Waiting.{KeepsWhatWaits};
-ghost use Rattle.token_server.specs.code.Admissions.{ServesWhatMeetsNone};
+ghost use Rattle.token_server.specs.code.Admissions.{GrantsWhatIsFree, KeepsWhatWaits, ServesWhatMeetsNone};
 
 /// An active request is granted at least its required bytes when its turn comes, if no other node's row conflicts
 /// with it then, no command to its own node is outstanding, and a command number is left.

@@ -14,3 +14,10 @@ pub mod server;
 pub mod shown_row;
 mod sketch;
 pub mod token_queue;
+
+pub use change::{ServerChange, ServerEdit};
+pub use event::ServerEvent;
+pub use server::Server;
+pub use shown_row::ShownRow;
+pub use token_queue::active_request::ActiveRequest;
+pub use token_queue::token_request::TokenRequest;

@@ -2,9 +2,8 @@
 ghost use Rattle.std.specs.Prelude.{◌≡◌, ◌≤◌, ◌++◌, ◌∷◌, [], find, None};
 ghost use Rattle.token_server.specs.rule.Requests.{is_of_call};
 ghost use Rattle.token_server.specs.rule.Actives.{requests_of};
-ghost use Rattle.token_server.specs.code.Admitting.{has_call_of, all_but};
-ghost use Rattle.token_server.specs.code.Sketches.{queue_moved, waiting_moved};
-ghost use Rattle.token_server.specs.code.Edits.{IsNewCall, many_moved, many_put_off};
+ghost use Rattle.token_server.specs.code.Admissions.{has_call_of, all_but};
+ghost use Rattle.token_server.specs.code.Edits.{queue_moved, waiting_moved, IsNewCall, many_moved, many_put_off};
 
 use crate::sketch::Moved;
 use crate::token_queue::active_request::ActiveRequest;

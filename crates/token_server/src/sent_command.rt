@@ -1,6 +1,6 @@
 //! The commands that a token server sends as it serves.
 ghost use Rattle.std.specs.Prelude.{◌≡◌, option_copied};
-ghost use Rattle.token_server.specs.code.Told.{told_to};
+ghost use Rattle.token_server.specs.code.Edits.{told_to};
 
 use crate::known_nodes::commands::Commands;
 use crate::known_nodes::server_command::ServerCommand;

@@ -2,14 +2,12 @@
 ghost use Rattle.std.specs.Prelude.{◌≡◌, ◌≢◌, ◌-◌, ◌<◌, ◌≤◌, ◌↔◌, false, ◌||◌, IsTrue, IfOk, IfErr, None, Ok, Err};
 ghost use Rattle.model.specs.rule.Limits.{IsNumber};
 ghost use Rattle.messages.specs.rule.Messages.{sending};
-ghost use Rattle.messages.specs.rule.Parts.{members_state};
+ghost use Rattle.messages.specs.rule.Members.{members_state};
 ghost use Rattle.token_server.specs.rule.State.{first_server, rebuilt, awaits};
-ghost use Rattle.token_server.specs.code.Told.{commands_told};
+ghost use Rattle.token_server.specs.code.Edits.{commands_told, dropped, planned, Fits};
 ghost use Rattle.token_server.specs.rule.Resends.{outstanding};
 ghost use Rattle.token_server.specs.rule.Server.{server_rule};
 ghost use Rattle.token_server.specs.rule.Parts.{server_state};
-ghost use Rattle.token_server.specs.code.Sketches.{dropped};
-ghost use Rattle.token_server.specs.code.Edits.{planned, Fits};
 
 use crate::change::{ServerChange, ServerEdit};
 use crate::event::ServerEvent;
@@ -18,12 +16,7 @@ use crate::moves::{leave, move_requests};
 use crate::sent_command::SentCommand;
 use crate::token_queue::active::Active;
 use crate::token_queue::line::Line;
-use messages::file_number::FileNumber;
-use messages::members::Members;
-use messages::outcome::Outcome;
-use messages::refusal::StepError;
-use messages::sends::Sends;
-use messages::shape::Shape;
+use messages::{FileNumber, Members, Outcome, Sends, Shape, StepError};
 use std::alloc::{AllocError, Global};
 use std::marker::Model;
 
@@ -55,7 +48,7 @@ pub struct Server {
 
 impl Model for Server {
     ghost use Rattle.token_server.specs.rule.Parts.{ServerParts};
-    ghost use Rattle.token_server.specs.code.Ready.{IsServer};
+    ghost use Rattle.token_server.specs.code.Edits.{IsServer};
 
     ghost Value = { ServerParts };
 

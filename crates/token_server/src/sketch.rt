@@ -1,12 +1,11 @@
 //! The sketch of an event: what it changes of a token server before it serves.
 ghost use Rattle.std.specs.Prelude.{◌≡◌, Some, None};
-ghost use Rattle.token_server.specs.code.Edits.{many_moved, many_put_off};
-ghost use Rattle.token_server.specs.code.Sketches.{dropped};
+ghost use Rattle.token_server.specs.code.Edits.{many_moved, many_put_off, dropped};
 
 use crate::known_nodes::known_change::{Changed, KnownChange};
 use crate::token_queue::line::Line;
 use crate::token_queue::token_request::TokenRequest;
-use model::call::CallId;
+use model::CallId;
 
 /// The move of requests between the lists of a server.
 #[derive(Clone, Copy)]

@@ -1,7 +1,3 @@
-pub mod SearchLaws
-pub mod AroundLaws
 pub mod TokenLaws
-pub mod RunLaws
 pub mod ReleaseLaws
-pub mod LevelLaws
 pub mod ViewLaws

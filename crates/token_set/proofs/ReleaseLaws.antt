@@ -13,14 +13,12 @@ use Rattle.model.specs.declared.lock_info.LockInfo.{LockInfo}
 use Rattle.model.specs.rule.Owners.{owner_at, most_owners}
 use Rattle.model.specs.rule.Locks.{FileLocks, excludes, bars, IsRegion, IsOfNode, IsClear, IsInWay, IsLowestInWay, lowest_in_way}
 use Rattle.model.proofs.WayLaws.{clear_has_none, barred_region, lowest_in_way_is_lowest, is_lowest_in_way}
-use Rattle.lock_table.specs.rule.Listing.{HasInWay}
-use Rattle.lock_table.proofs.LargestLaws.{IsLargest-iff}
-use Rattle.token_set.specs.rule.Tokens.{Token, serves}
-use Rattle.token_set.specs.rule.Releases.{lowered_level, lowered, is_in_way, given_up_span, answer_of, gave_up, NoneInWay, IsGivenUp, IsRevocable, GaveUpIsGivenUp, GaveUpIsOne, ReleasedIsClear, IsAtMost, LoweringLowers, LoweringKeepsLocks}
+use Rattle.lock_table.specs.rule.Tables.{HasInWay}
+use Rattle.lock_table.proofs.BlockerLemmas.{IsLargest-iff}
+use Rattle.token_set.specs.rule.Tokens.{Token, serves, lowered_level, lowered, is_in_way, given_up_span, answer_of, gave_up, NoneInWay, IsGivenUp, IsRevocable, GaveUpIsGivenUp, GaveUpIsOne, ReleasedIsClear, IsAtMost, LoweringLowers, LoweringKeepsLocks}
 use Rattle.token_set.specs.declared.gave_up.GaveUp.{GaveUp}
 use Rattle.token_set.specs.declared.gave_up.GaveUp.TheVariants.{Released, Conflict}
-use Rattle.token_set.proofs.SearchLaws.{some_passes-first, some_passes-from}
-use Rattle.token_set.proofs.AroundLaws.{largest_around-is}
+use Rattle.token_set.proofs.TokenLaws.{some_passes-first, some_passes-from, largest_around-is}
 
 -- a lock in the way of a byte is in the way of each span with that byte
 in_way-wider : (s : Range) (mode : Mode) (b : ℕ) (lock : LockInfo) → s.lo ≤ b → b ≤ s.hi → IsInWay (record { lo = b; hi = b }) mode lock → IsInWay s mode lock

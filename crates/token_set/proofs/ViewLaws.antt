@@ -12,11 +12,9 @@ use Rattle.intervals.specs.declared.tree_map.TreeMap.{TreeMap}
 use Rattle.model.specs.declared.mode.Mode.{Mode}
 use Rattle.model.specs.declared.mode.Mode.TheVariants.{Read}
 use Rattle.model.specs.declared.level.Level.{Level}
-use Rattle.token_set.specs.rule.Tokens.{Token, conflicts, level_conflicts}
-use Rattle.token_set.specs.rule.Tokens.{token_of}
+use Rattle.token_set.specs.rule.Tokens.{Token, conflicts, level_conflicts, token_of}
 use Rattle.token_set.specs.code.Views.{InWay}
-use Rattle.token_set.proofs.SearchLaws.{some_passes-first}
-use Rattle.token_set.proofs.TokenLaws.{conflicts-from, conflicts-none, none-conflicts}
+use Rattle.token_set.proofs.TokenLaws.{some_passes-first, conflicts-from, conflicts-none, none-conflicts}
 
 module _ (t : Token) (over : Range) (level : Option Level) (mode : Mode) where
   inside : (b : ℕ) → over.lo ≤ b → b ≤ over.hi → put t over level b ≡ level

@@ -5,7 +5,7 @@ ghost use Rattle.token_set.specs.rule.Tokens.{token_of};
 
 use crate::set::TokenSet;
 use intervals::span::{GREATEST, Span};
-use model::policy::Policy;
+use model::Policy;
 
 /// The bytes that a node requests with the ones that a call needs, under a policy. Under `Wide`
 /// they are the whole file where the node holds no token of it, and else all bytes from the first

@@ -11,8 +11,7 @@ ghost use Rattle.token_set.specs.code.Edits.{edited};
 use crate::set::{TokenSet, is_exclusive};
 use intervals::span::{GREATEST, Span};
 use intervals::span_edit::SpanEdit;
-use model::level::Level;
-use model::mode::Mode;
+use model::{Level, Mode};
 
 /// A planned change of a token. It holds the memory that it takes, for a token of at most as many
 /// runs as the one that it was planned for.

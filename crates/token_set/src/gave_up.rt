@@ -2,12 +2,11 @@
 ghost use Rattle.std.specs.Prelude.{◌≤◌};
 ghost use Rattle.model.specs.rule.Locks.{IsRegion};
 ghost use Rattle.lock_table.specs.rule.Tables.{held};
-ghost use Rattle.token_set.specs.rule.Releases.{IsGivenUp};
+ghost use Rattle.token_set.specs.rule.Tokens.{IsGivenUp};
 
 use intervals::span::Span;
 use lock_table::lock_table::LockTable;
-use model::lock_info::LockInfo;
-use model::mode::Mode;
+use model::{LockInfo, Mode};
 
 /// A holder's answer to a revoke.
 #[derive(Clone, Copy, PartialEq, Eq)]

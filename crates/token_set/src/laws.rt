@@ -1,5 +1,5 @@
 //! Laws of tokens, each the contract of a function that does nothing.
-ghost use Rattle.token_set.specs.rule.Releases.{GaveUpIsGivenUp, GaveUpIsOne, ReleasedIsClear, LoweringLowers, LoweringKeepsLocks};
+ghost use Rattle.token_set.specs.rule.Tokens.{GaveUpIsGivenUp, GaveUpIsOne, ReleasedIsClear, LoweringLowers, LoweringKeepsLocks};
 
 /// A holder answers a revoke with its lowest lock in the way of the required bytes, if it has one,
 /// else with the largest span that contains these bytes, lies in the desired ones, and has no byte

@@ -7,12 +7,9 @@ ghost use Rattle.intervals.specs.rule.Bytes.{NoneIn, put};
 ghost use Rattle.intervals.specs.code.Edits.{written};
 ghost use Rattle.model.specs.rule.Locks.{IsRegion};
 ghost use Rattle.lock_table.specs.rule.Tables.{held};
-ghost use Rattle.token_set.specs.rule.Tokens.{Token, no_token, serves, covers, raised, level_conflicts};
-ghost use Rattle.token_set.specs.code.Sets.{bar_of, HasLevels, IsFirstExclusive, at_exclusive};
-ghost use Rattle.token_set.specs.rule.Tokens.{token_of};
-ghost use Rattle.token_set.specs.rule.Releases.{lowered, IsGivenUp, after_giving_up};
+ghost use Rattle.token_set.specs.rule.Tokens.{Token, no_token, serves, covers, raised, level_conflicts, token_of, lowered, IsGivenUp, after_giving_up};
+ghost use Rattle.token_set.specs.code.Sets.{bar_of, HasLevels, IsFirstExclusive, at_exclusive, NothingFrom, IsNextRun};
 ghost use Rattle.token_set.specs.code.Edits.{edited};
-ghost use Rattle.token_set.specs.code.Runs.{NothingFrom, IsNextRun};
 
 use crate::edit::TokenEdit;
 use crate::gave_up::GaveUp;
@@ -21,8 +18,7 @@ use intervals::span_edit::SpanEdit;
 use intervals::span_map::SpanMap;
 use intervals::tree_map::TreeMap;
 use lock_table::lock_table::LockTable;
-use model::level::Level;
-use model::mode::Mode;
+use model::{Level, Mode};
 use std::alloc::{AllocError, Global};
 use std::marker::Model;
 

@@ -8,8 +8,7 @@ ghost use Rattle.token_set.specs.code.Views.{viewed, InWay};
 
 use crate::set::TokenSet;
 use intervals::span::Span;
-use model::level::Level;
-use model::mode::Mode;
+use model::{Level, Mode};
 
 /// A token for reading: as it is, or with a write that isn't made yet.
 #[derive(Clone, Copy)]

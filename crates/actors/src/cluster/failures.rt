@@ -7,17 +7,12 @@ ghost use Rattle.cluster_core.specs.rule.World.{journal_limit};
 ghost use Rattle.actors.specs.code.Refusals.{may_refuse_failure, may_refuse_start};
 
 use super::Cluster;
-use crate::begun::begin;
-use crate::gate::Gate;
 use crate::letter::Letter;
-use crate::rebuilt::Rebuilt;
-use book::seat::Seat;
-use book::stamp::Stamp;
-use book::trail_name::Name;
-use messages::refusal::Refused;
+use book::{Name, Stamp};
+use messages::{Actor, Refused};
 use std::sync::Wait;
 
-impl<'a, J: Name, G: Gate> Cluster<'a, J, G> {
+impl<J: Name, G> Cluster<'_, J, G> {
     /// Declares the node failed, and sends each token server word of it.
     ///
     /// # Errors
@@ -26,14 +21,19 @@ impl<'a, J: Name, G: Gate> Cluster<'a, J, G> {
         ensures event { IfOk result (λ stamp. stamp.event ≡ Member (Declare node)) }
         ensures refused { IfErr result (λ e. may_refuse_failure e ≡ true) }
     {
-        let Some(place) = self.place(node) else {
-            return self.book.lock(rt).declare(self.alloc, node);
-        };
-        let mut place = place.lock(rt);
-        let stamp = self.book.lock(rt).declare(self.alloc, node)?;
-        let incarnation = place.end();
-        for mailbox in self.mailboxes.iter().skip(usize::from(self.nodes)) {
-            mailbox.send_surely(rt, Letter::Learn { node, incarnation }, self.halt);
+        let mut place = self.place(node).map(|place| place.lock(rt));
+        let stamp = self.book.lock(rt).declare(self.alloc(), node)?;
+        if let Some(place) = place.as_mut() {
+            let incarnation = place.end();
+            for mailbox in self
+                .begun
+                .mailboxes
+                .iter()
+                .skip(usize::from(self.begun.nodes))
+            {
+                let letter = Letter::Learn { node, incarnation };
+                mailbox.send_surely(rt, letter, &self.begun.halt);
+            }
         }
         Ok(stamp)
     }
@@ -47,24 +47,13 @@ impl<'a, J: Name, G: Gate> Cluster<'a, J, G> {
         ensures position { IfOk result (IsNumber journal_limit) }
         ensures refused { IfErr result (λ e. may_refuse_start e ≡ true) }
     {
-        let Some(place) = self.place(node) else {
-            let (_, position) = self.restart_in_book(rt, node)?;
-            return Ok(position);
-        };
-        let mut place = place.lock(rt);
-        let (seat, position) = self.restart_in_book(rt, node)?;
-        place.begin(seat);
-        Ok(position)
-    }
-
-    // The new seat of the node, and the position of the entry.
-    fn restart_in_book<R: Wait>(&self, rt: &R, node: u8) -> Result<(Seat<J>, u32), Refused>
-        ensures position { IfOk result (λ r. IsNumber journal_limit r.1) }
-        ensures refused { IfErr result (λ e. may_refuse_start e ≡ true) }
-    {
+        let mut place = self.place(node).map(|place| place.lock(rt));
         let mut book = self.book.lock(rt);
-        let seat = book.restart(self.alloc, node)?;
-        Ok((seat, book.len()))
+        let seat = book.restart(self.alloc(), node)?;
+        if let Some(place) = place.as_mut() {
+            place.begin(seat);
+        }
+        Ok(book.len())
     }
 
     /// Declares the token server of the file failed.
@@ -75,7 +64,7 @@ impl<'a, J: Name, G: Gate> Cluster<'a, J, G> {
         ensures event { IfOk result (λ stamp. stamp.event ≡ Member (FailServer file)) }
         ensures refused { IfErr result (λ e. may_refuse_failure e ≡ true) }
     {
-        self.book.lock(rt).fail_server(self.alloc, file)
+        self.book.lock(rt).fail_server(self.alloc(), file)
     }
 
     /// Starts the token server of the file again, which was declared failed. Its worker takes the new seat before its
@@ -89,8 +78,8 @@ impl<'a, J: Name, G: Gate> Cluster<'a, J, G> {
         ensures refused { IfErr result (λ e. may_refuse_start e ≡ true) }
     {
         let position = self.rebuild(rt, file)?;
-        if let Some(mailbox) = self.server_mailbox(file) {
-            mailbox.send_surely(rt, Letter::Begin, self.halt);
+        if let Some(mailbox) = self.mailbox(Actor::Server(file)) {
+            mailbox.send_surely(rt, Letter::Begin, &self.begun.halt);
         }
         Ok(position)
     }
@@ -100,24 +89,12 @@ impl<'a, J: Name, G: Gate> Cluster<'a, J, G> {
         ensures position { IfOk result (IsNumber journal_limit) }
         ensures refused { IfErr result (λ e. may_refuse_start e ≡ true) }
     {
-        let Some(place) = self.server_place(file) else {
-            let (_, position) = self.rebuild_in_book(rt, file)?;
-            return Ok(position);
-        };
-        let mut place = place.lock(rt);
-        let (rebuilt, position) = self.rebuild_in_book(rt, file)?;
-        *place = Some(rebuilt);
-        Ok(position)
-    }
-
-    // The new seat of the token server, with the messages in which it asks the nodes for their tokens, and the
-    // position of the entry.
-    fn rebuild_in_book<R: Wait>(&self, rt: &R, file: u16) -> Result<(Rebuilt<J>, u32), Refused>
-        ensures position { IfOk result (λ r. IsNumber journal_limit r.1) }
-        ensures refused { IfErr result (λ e. may_refuse_start e ≡ true) }
-    {
+        let mut place = self.server_place(file).map(|place| place.lock(rt));
         let mut book = self.book.lock(rt);
-        let (seat, stamp) = book.start_server(self.alloc, file)?;
-        Ok((Rebuilt { seat, stamp }, book.len()))
+        let rebuilt = book.start_server(self.alloc(), file)?;
+        if let Some(place) = place.as_mut() {
+            **place = Some(rebuilt);
+        }
+        Ok(book.len())
     }
 }

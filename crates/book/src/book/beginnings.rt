@@ -1,19 +1,16 @@
 //! The first seats of the actors of a book.
 ghost use Rattle.std.specs.Prelude.{◌≡◌, ◌+◌, ◌-◌, ◌<◌, Ok, length, IfOk, OnOk};
 ghost use Rattle.cluster_core.specs.rule.World.{first_world};
-ghost use Rattle.book.specs.rule.States.{actor_of, HasState};
-ghost use Rattle.book.specs.rule.States.{state_of};
-ghost use Rattle.book.specs.rule.Seats.{AreFirst};
+ghost use Rattle.book.specs.rule.States.{actor_of, HasState, state_of};
+ghost use Rattle.book.specs.rule.Commits.{AreFirst};
 ghost use Rattle.model.specs.rule.Limits.{IsNumber};
 ghost use Rattle.messages.specs.declared.actor.Actor.TheVariants.{Node as ANode, Server as AServer};
 
-use crate::seat::Seat;
-use crate::state::State;
-use crate::trail_name::Name;
-use messages::shape::Shape;
-use node_core::node::Node;
+use crate::{Name, Seat, State};
+use messages::Shape;
+use node_core::Node;
 use std::alloc::{AllocError, Global};
-use token_server::server::Server;
+use token_server::Server;
 
 // The state of a node of a cluster that begins.
 fn first_node_state(alloc: Global, shape: Shape, number: u8) -> Result<State, AllocError>

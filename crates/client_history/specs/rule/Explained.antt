@@ -1,8 +1,36 @@
--- When one table of record locks explains what the clients of a file saw.
-use Rattle.std.specs.Prelude.{◌≡◌, ◌≢◌, ℕ, ◌≤◌, ◌<◌, true, List, [], ◌∷◌, slice_get, Some, None}
-use Rattle.model.specs.rule.Locks.{Locks, no_locks}
+-- When one table of record locks explains what the clients of a file saw, and what a verdict says.
+use Rattle.std.specs.Prelude.{◌≡◌, ℕ, Some, None, IfSome, ◌≢◌, ◌≤◌, ◌<◌, true, List, [], ◌∷◌, slice_get, ⊤}
+use Rattle.intervals.specs.rule.Bytes.{Range}
+use Rattle.model.specs.declared.mode.Mode.{Mode}
+use Rattle.model.specs.declared.owner.Owner.{Owner}
+use Rattle.model.specs.declared.lock_info.LockInfo.{LockInfo}
+use Rattle.model.specs.rule.Locks.{Locks, with_lock, without_owner, IsFree, Blocks, no_locks}
+use Rattle.client_history.specs.declared.told_lock.ToldLock.{ToldLock}
+use Rattle.client_history.specs.declared.act.Act.{Act}
+use Rattle.client_history.specs.declared.act.Act.TheVariants.{Locks as Takes, IsDenied, IsFree as FindsFree, Frees, Drops}
 use Rattle.client_history.specs.declared.client_call.ClientCall.{ClientCall}
-use Rattle.client_history.specs.rule.Acts.{ActStep}
+use Rattle.client_history.specs.declared.verdict.Verdict.{Verdict}
+use Rattle.client_history.specs.declared.verdict.Verdict.TheVariants.{Explained, Unexplained, Unknown}
+
+-- all that the client was told applies to the lock
+pub record IsTold (told : ToldLock) (lock : LockInfo) : Type 0 where
+  pub mode : IfSome told.mode (λ mode. mode ≡ lock.mode)
+  pub span : IfSome told.span (λ span. span ≡ lock.span)
+  pub owner : IfSome told.owner (λ owner. owner ≡ lock.owner)
+
+-- some lock of another owner blocks the span in the mode, and all that the client was told applies to it
+pub record IsBlocked (h : Locks) (file : ℕ) (owner : Owner) (span : Range) (mode : Mode) (told : ToldLock) : Type 0 where
+  pub lock : LockInfo
+  pub blocks : Blocks (h file) owner span mode lock
+  pub named : IsTold told lock
+
+-- the owner's act leads from the old locks to the new (POSIX.1-2017 fcntl()): a set or wait that is done, one denied, a query, an unlock, a close or an exit
+abbrev pub ActStep : ℕ → Locks → Owner → Act → Locks → Type 0
+ActStep file old owner (Takes mode span) new = IsFree (old file) owner span mode × (new ≡ with_lock old file owner span (Some mode))
+ActStep file old owner (IsDenied mode span told) new = IsBlocked old file owner span mode told × (new ≡ old)
+ActStep file old owner (FindsFree mode span) new = IsFree (old file) owner span mode × (new ≡ old)
+ActStep file old owner (Frees span) new = new ≡ with_lock old file owner span None
+ActStep file old owner Drops new = new ≡ without_owner old file owner
 
 -- the file whose locks are judged: each file has its own history
 abbrev pub the_file : ℕ
@@ -82,3 +110,33 @@ pub record IsExplainedBy (time : ℕ) (calls : List ClientCall) (order : List �
 -- the greatest time that a call can have: no end is later
 abbrev pub always : ℕ
 always = 18446744073709551615
+
+-- up to each time before that one some order explains the calls
+abbrev pub AreExplainedBefore : ℕ → List ClientCall → Type 0
+AreExplainedBefore end calls = (time : ℕ) → time < end → (order : List ℕ) × IsExplainedBy time calls order
+
+-- no order explains the calls up to the end of the call, nor up to a later time
+pub record IsUnexplainedFrom (calls : List ClientCall) (i : ℕ) : Type 0 where
+  pub call : ClientCall
+  pub there : slice_get calls i ≡ Some call
+  pub end : ℕ
+  pub ends : call.end ≡ Some end
+  pub timed : end ≤ always
+  pub none : (time : ℕ) (order : List ℕ) → end ≤ time → IsExplainedBy time calls order → ⊥
+
+-- no order explains the calls up to the end of the call, nor up to a later time; up to each earlier time one does
+pub record IsUnexplained (calls : List ClientCall) (i : ℕ) : Type 0 where
+  pub from : IsUnexplainedFrom calls i
+  pub before : AreExplainedBefore from.end calls
+
+-- the verdict is true; `Unknown` says nothing
+abbrev pub IsVerdict : List ClientCall → Verdict → Type 0
+IsVerdict calls (Explained order) = IsExplainedBy always calls order.items
+IsVerdict calls (Unexplained call ways) = IsUnexplained calls call
+IsVerdict calls (Unknown call) = ⊤
+
+-- what the search says is true where it finds no order; an order that it finds says nothing
+abbrev pub IsSearched : List ClientCall → Verdict → Type 0
+IsSearched calls (Explained order) = ⊤
+IsSearched calls (Unexplained call ways) = IsUnexplainedFrom calls call
+IsSearched calls (Unknown call) = ⊤

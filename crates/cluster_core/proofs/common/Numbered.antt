@@ -1,3 +1,2 @@
 -- The item with a number in a list of those from a number on.
-pub use Rattle.messages.proofs.Numbered.{numbered-read, numbered-set, Begun, begun_empty, begun_more}
-pub use Rattle.messages.proofs.Numbered.{within_is, put_at, read_number}
+pub use Rattle.messages.proofs.Rules.{numbered-read, numbered-set, Begun, begun_empty, begun_more, within_is, put_at, read_number}

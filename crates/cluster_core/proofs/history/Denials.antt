@@ -14,9 +14,8 @@ use Rattle.model.specs.rule.Locks.{IsRegion, IsClear, IsLowestInWay, Blocks, low
 use Rattle.model.specs.rule.Table.{Table}
 use Rattle.model.specs.rule.Step.{Step}
 use Rattle.model.proofs.WayLaws.{lowest_in_way_is_lowest}
-use Rattle.messages.specs.rule.Shapes.{ShapeFields}
-use Rattle.messages.specs.rule.Wants.{Wants}
-use Rattle.messages.specs.rule.Epochs.{begin_of}
+use Rattle.messages.specs.rule.Shapes.{ShapeFields, begin_of}
+use Rattle.messages.specs.rule.TokenRuns.{Wants}
 use Rattle.messages.specs.rule.Messages.{same_host, is_conflict}
 use Rattle.messages.specs.declared.message.Message.TheVariants.{Revoke, Conflict}
 use Rattle.messages.proofs.SameMessages.{host_refl}

@@ -8,7 +8,7 @@ use Rattle.model.specs.rule.Table.{gone}
 use Rattle.node_core.specs.rule.State.{NodeState, first_node}
 use Rattle.cluster_core.specs.rule.World.{WorldState, has_node}
 use Rattle.cluster_core.specs.rule.Next.{declared}
-use Rattle.messages.specs.rule.Versions.{most_regions}
+use Rattle.messages.specs.rule.Shapes.{most_regions}
 use Rattle.cluster_core.specs.rule.Union.{union}
 use Rattle.cluster_core.proofs.common.Choices.{at_number}
 use Rattle.cluster_core.proofs.history.Unions.{live_at}

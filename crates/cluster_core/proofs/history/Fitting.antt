@@ -9,7 +9,7 @@ use Rattle.messages.specs.declared.event.NodeInput.TheVariants.{Call, Interrupt,
 use Rattle.messages.specs.declared.entry.Entry.{Entry}
 use Rattle.messages.proofs.SameMessages.{call_exact, call_refl}
 use Rattle.cluster_core.specs.rule.Histories.{IsCalledAt}
-use Rattle.cluster_core.specs.code.Placement.{is_named, called_by, find_call}
+use Rattle.cluster_core.specs.code.Calls.{is_named, called_by, find_call}
 use Rattle.cluster_core.proofs.history.Entries.{IsNamed, called_at-keeps, called_at-last}
 
 named_is : (id : CallId) (o : Option CallId) → is_named id o ≡ true → o ≡ Some id

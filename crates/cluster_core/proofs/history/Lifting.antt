@@ -10,8 +10,7 @@ use Rattle.model.specs.rule.Locks.{bars}
 use Rattle.model.specs.rule.Descriptors.{no_processes}
 use Rattle.model.specs.rule.Table.{Table, LockTarget}
 use Rattle.model.specs.rule.Step.{Step}
-use Rattle.messages.specs.rule.Versions.{most_regions}
-use Rattle.messages.specs.rule.Shapes.{ShapeFields}
+use Rattle.messages.specs.rule.Shapes.{most_regions, ShapeFields}
 use Rattle.messages.specs.rule.Messages.{is_within}
 use Rattle.node_core.specs.rule.State.{NodeState, process}
 use Rattle.cluster_core.specs.rule.World.{WorldState, has_node, is_live}

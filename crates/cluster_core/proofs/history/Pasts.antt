@@ -14,11 +14,9 @@ use Rattle.model.specs.declared.mode.Mode.{Mode}
 use Rattle.model.specs.declared.op.Op.{Op}
 use Rattle.model.specs.rule.Limits.{IsNumber, IsProcess, most_nodes, most_processes}
 use Rattle.model.specs.rule.Locks.{lowest_in_way}
-use Rattle.token_set.specs.rule.Releases.{given_up_span, answer_of}
-use Rattle.messages.specs.rule.Versions.{most_regions}
-use Rattle.messages.specs.rule.Shapes.{ShapeFields, IsShape}
-use Rattle.messages.specs.rule.Wants.{Wants}
-use Rattle.messages.specs.rule.Epochs.{begin_of}
+use Rattle.token_set.specs.rule.Tokens.{given_up_span, answer_of}
+use Rattle.messages.specs.rule.Shapes.{most_regions, ShapeFields, IsShape, begin_of}
+use Rattle.messages.specs.rule.TokenRuns.{Wants}
 use Rattle.messages.specs.rule.Messages.{addressee, is_among, is_conflict, is_within, same_host, same_message, sending}
 use Rattle.messages.proofs.SameMessages.{host_exact, same_message-is-equality}
 use Rattle.messages.specs.declared.refusal.StepError.{StepError}
@@ -53,7 +51,7 @@ use Rattle.cluster_core.specs.rule.Safe.{IsSafe}
 use Rattle.cluster_core.proofs.tokens.Heard.{IsHeard}
 use Rattle.cluster_core.specs.rule.Histories.{EntryAt, IsCalledAt, names_conflict, HasHistory, EachAtItsPlace}
 use Rattle.cluster_core.specs.rule.Evidence.{IsTold, HasEvidence, is_wait}
-use Rattle.cluster_core.specs.code.Placement.{slots_of, items_in, history_of}
+use Rattle.cluster_core.specs.code.Calls.{slots_of, items_in, history_of}
 use Rattle.cluster_core.specs.rule.Plain.{IsPlainHistory}
 use Rattle.cluster_core.proofs.common.Choices.{at_number}
 use Rattle.cluster_core.proofs.history.Entries.{none_named, none_called, none_replied}

@@ -24,7 +24,7 @@ use Rattle.cluster_core.specs.rule.Runs.{Leads}
 use Rattle.cluster_core.specs.rule.Union.{union}
 use Rattle.cluster_core.specs.rule.Histories.{caller, names_conflict, ItemStep, EntryAt, IsRevokedAt, IsPlaceOf, IsDeclaredAt, OneCall}
 use Rattle.cluster_core.specs.rule.Evidence.{IsWorldAfter, HasEvidence}
-use Rattle.cluster_core.specs.code.Placement.{Slots, find_call, item_of, filled, gone_at, placed_by, slots_after, slots_of}
+use Rattle.cluster_core.specs.code.Calls.{Slots, find_call, item_of, filled, gone_at, placed_by, slots_after, slots_of}
 use Rattle.cluster_core.proofs.common.Places.{slice_get-keeps, slice_get-last}
 use Rattle.cluster_core.proofs.history.Entries.{not_there, same_answer, Unanswered, entry_at-keeps, entry_at-last, entry_at-within, called_at-keeps, replied_at-last}
 use Rattle.cluster_core.proofs.history.Fitting.{Called, called-keeps}

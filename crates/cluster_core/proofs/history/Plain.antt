@@ -8,8 +8,7 @@ use Rattle.model.specs.declared.reply.Reply.{Reply}
 use Rattle.model.specs.declared.reply.Reply.TheVariants.{Again, Blocked}
 use Rattle.model.specs.rule.Replay.{NamesNoLock}
 use Rattle.model.specs.rule.Table.{Table, empty_table}
-use Rattle.messages.specs.rule.Versions.{most_regions}
-use Rattle.messages.specs.rule.Shapes.{ShapeFields}
+use Rattle.messages.specs.rule.Shapes.{most_regions, ShapeFields}
 use Rattle.messages.specs.declared.entry.Entry.{Entry}
 use Rattle.cluster_core.specs.declared.item.Item.{Item}
 use Rattle.cluster_core.specs.declared.item.Item.TheVariants.{Answered, Gone}
@@ -17,7 +16,7 @@ use Rattle.cluster_core.specs.rule.World.{WorldState, first_world}
 use Rattle.cluster_core.specs.rule.Runs.{Leads}
 use Rattle.cluster_core.specs.rule.Union.{union}
 use Rattle.cluster_core.specs.rule.Histories.{caller, IsPlaced, IsRepliedAt, Legal, OneReply}
-use Rattle.cluster_core.specs.code.Placement.{Slots, items_in}
+use Rattle.cluster_core.specs.code.Calls.{Slots, items_in}
 use Rattle.cluster_core.specs.rule.Plain.{IsPlainAnswer, IsPlain}
 use Rattle.cluster_core.proofs.history.Prefixes.{table_at}
 use Rattle.cluster_core.proofs.history.Quiet.{again_stays, blocked_stays}

@@ -3,8 +3,7 @@ use Rattle.std.proofs.Common.{◌≡◌, ℕ, ◌+◌, Bool, true, false, not, i
 use Rattle.std.proofs.lemmas.Bool.{both_ways}
 use Rattle.intervals.specs.rule.Bytes.{nothing}
 use Rattle.model.specs.rule.Descriptors.{no_processes}
-use Rattle.messages.specs.rule.Versions.{most_regions}
-use Rattle.messages.specs.rule.Shapes.{ShapeFields}
+use Rattle.messages.specs.rule.Shapes.{most_regions, ShapeFields}
 use Rattle.messages.specs.rule.Messages.{addressee}
 use Rattle.messages.specs.declared.actor.Actor.{Actor}
 use Rattle.messages.specs.declared.actor.Actor.TheVariants.{Node as ANode, Server as AServer}

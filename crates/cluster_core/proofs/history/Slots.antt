@@ -13,8 +13,7 @@ use Rattle.model.specs.declared.op.Op.{Op}
 use Rattle.model.specs.declared.reply.Reply.{Reply}
 use Rattle.model.specs.rule.Replay.{NamesNoLock}
 use Rattle.model.specs.rule.Table.{Table, empty_table}
-use Rattle.messages.specs.rule.Versions.{most_regions}
-use Rattle.messages.specs.rule.Shapes.{ShapeFields}
+use Rattle.messages.specs.rule.Shapes.{most_regions, ShapeFields}
 use Rattle.messages.specs.declared.message.Message.TheVariants.{Conflict, Deny}
 use Rattle.messages.specs.declared.event.Event.{Event}
 use Rattle.messages.specs.declared.event.Event.TheVariants.{Deliver, Member}
@@ -26,7 +25,7 @@ use Rattle.cluster_core.specs.rule.Histories.{position_of, call_id, ItemStep, Le
 use Rattle.cluster_core.specs.rule.World.{WorldState, first_world}
 use Rattle.cluster_core.specs.rule.Runs.{Leads}
 use Rattle.cluster_core.specs.rule.Union.{union}
-use Rattle.cluster_core.specs.code.Placement.{Slots, slots_after, slots_from, slots_of, items_in}
+use Rattle.cluster_core.specs.code.Calls.{Slots, slots_after, slots_from, slots_of, items_in}
 use Rattle.cluster_core.proofs.common.Places.{slice_get-keeps, slice_get-last, slice_get-push}
 use Rattle.cluster_core.proofs.history.Entries.{entry_at-keeps, entry_at-push, entry_at-within, called_at-keeps, replied_at-keeps, replied_at-push, none_replied}
 use Rattle.cluster_core.proofs.history.Unions.{union_first}

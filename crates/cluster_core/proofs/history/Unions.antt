@@ -7,8 +7,7 @@ use Rattle.model.specs.declared.owner.Owner.{Owner}
 use Rattle.model.specs.rule.Locks.{FileLocks, IsOfNode}
 use Rattle.model.specs.rule.Descriptors.{Processes, no_processes}
 use Rattle.model.specs.rule.Table.{empty_table}
-use Rattle.messages.specs.rule.Versions.{most_regions}
-use Rattle.messages.specs.rule.Shapes.{ShapeFields}
+use Rattle.messages.specs.rule.Shapes.{most_regions, ShapeFields}
 use Rattle.messages.specs.rule.Messages.{is_within}
 use Rattle.cluster_core.specs.rule.World.{WorldState, first_world, has_node, is_live}
 use Rattle.cluster_core.specs.rule.Union.{union}

@@ -10,8 +10,7 @@ use Rattle.model.specs.declared.reply.Reply.{Reply}
 use Rattle.model.specs.rule.Limits.{IsProcess}
 use Rattle.model.specs.rule.Table.{Table}
 use Rattle.model.specs.rule.Step.{Step}
-use Rattle.messages.specs.rule.Versions.{most_regions}
-use Rattle.messages.specs.rule.Shapes.{ShapeFields}
+use Rattle.messages.specs.rule.Shapes.{most_regions, ShapeFields}
 use Rattle.messages.specs.declared.message.Message.{Message}
 use Rattle.messages.specs.declared.event.Event.{Event}
 use Rattle.messages.specs.declared.event.Event.TheVariants.{Member}
@@ -29,7 +28,7 @@ use Rattle.cluster_core.specs.rule.Union.{union}
 use Rattle.cluster_core.specs.rule.Histories.{caller, EntryAt, IsRepliedAt, OneCall, OneReply}
 use Rattle.cluster_core.specs.rule.Evidence.{IsAbout, IsAsked}
 use Rattle.cluster_core.proofs.tokens.Epochs.{EndsOf}
-use Rattle.cluster_core.specs.code.Placement.{slots_of}
+use Rattle.cluster_core.specs.code.Calls.{slots_of}
 use Rattle.cluster_core.proofs.common.Choices.{at_number}
 use Rattle.cluster_core.proofs.runs.JournalRuns.{leads_push}
 use Rattle.cluster_core.proofs.history.Entries.{not_there, same_answer, IsNamed, Unanswered, entry_at-push, called_at-push, named-push, named_called, one_call-push, one_reply-push}

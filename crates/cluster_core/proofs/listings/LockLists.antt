@@ -7,10 +7,9 @@ use Rattle.intervals.specs.rule.Bytes.{nothing}
 use Rattle.model.specs.declared.owner.Owner.{Owner}
 use Rattle.model.specs.declared.lock_info.LockInfo.{LockInfo}
 use Rattle.model.specs.rule.Locks.{FileLocks, IsRegion, IsOfNode}
-use Rattle.lock_table.specs.rule.Listing.{IsListing, ListsRegions}
+use Rattle.lock_table.specs.rule.Tables.{IsListing, ListsRegions}
 use Rattle.lock_table.proofs.BlockerLemmas.{IsJoin}
-use Rattle.lock_table.proofs.ListingLemmas.{lists_none, lists_join}
-use Rattle.lock_table.proofs.ListingParts.{lists_listing}
+use Rattle.lock_table.proofs.ListingLemmas.{lists_none, lists_join, lists_listing}
 use Rattle.node_core.specs.rule.State.{NodeState}
 use Rattle.cluster_core.specs.declared.held_lock.HeldLock.{HeldLock}
 use Rattle.cluster_core.specs.rule.World.{WorldState, has_node, has_file, is_live}

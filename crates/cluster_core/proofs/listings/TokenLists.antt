@@ -6,7 +6,7 @@ use Rattle.std.proofs.lemmas.List.Elements.{All-weaker}
 use Rattle.intervals.specs.rule.Bytes.{Range, IsRun}
 use Rattle.model.specs.declared.level.Level.{Level}
 use Rattle.messages.specs.rule.Messages.{is_within}
-use Rattle.token_set.specs.code.Runs.{ListsRuns}
+use Rattle.token_set.specs.code.Sets.{ListsRuns}
 use Rattle.node_core.specs.rule.State.{NodeState}
 use Rattle.cluster_core.specs.declared.node_token_run.NodeTokenRun.{NodeTokenRun}
 use Rattle.cluster_core.specs.rule.World.{WorldState, has_node, has_file}

@@ -5,7 +5,7 @@ use Rattle.std.proofs.lemmas.Bool.{both_ways, and_parts, leb-true}
 use Rattle.std.proofs.lemmas.List.Elements.{All-head}
 use Rattle.intervals.specs.rule.Bytes.{Range}
 use Rattle.intervals.proofs.SearchLaws.{first_is_first}
-use Rattle.token_set.proofs.SearchLaws.{none_passes-from}
+use Rattle.token_set.proofs.TokenLaws.{none_passes-from}
 use Rattle.model.specs.declared.mode.Mode.{Mode}
 use Rattle.model.specs.rule.Limits.{IsNumber}
 use Rattle.messages.specs.declared.message.Message.{Message}
@@ -13,8 +13,7 @@ use Rattle.token_server.specs.declared.token_queue.token_request.TokenRequest.{T
 use Rattle.token_server.specs.rule.Rows.{Row, row_conflicts, outstanding_of, is_hello, is_awaited}
 use Rattle.token_server.specs.rule.State.{ServerState, awaits}
 use Rattle.token_server.specs.rule.Serve.{conflicting_node}
-use Rattle.token_server.specs.rule.Obstacles.{obstacle, is_idle}
-use Rattle.token_server.specs.rule.Obstacles.{all_stay}
+use Rattle.token_server.specs.rule.Obstacles.{obstacle, is_idle, all_stay}
 use Rattle.cluster_core.specs.rule.Serving.{IsBusy, HasRow, IsAtRest, RestsWithoutRequests}
 use Rattle.token_server.proofs.GrantLaws.{conflicts_at}
 

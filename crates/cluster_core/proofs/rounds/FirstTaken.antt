@@ -5,9 +5,8 @@ use Rattle.intervals.specs.rule.Bytes.{Range}
 use Rattle.model.specs.declared.call.CallId.{CallId}
 use Rattle.model.specs.declared.mode.Mode.{Mode}
 use Rattle.model.specs.declared.reply.Reply.{Reply}
-use Rattle.messages.specs.rule.Messages.{addressee, is_among, same_message}
+use Rattle.messages.specs.rule.Messages.{addressee, is_among, same_message, runs_of}
 use Rattle.messages.proofs.SameMessages.{same_message-is-equality}
-use Rattle.messages.specs.rule.Reports.{runs_of}
 use Rattle.messages.specs.declared.actor.Actor.{Actor}
 use Rattle.messages.specs.declared.actor.Actor.TheVariants.{Node as ANode, Server as AServer}
 use Rattle.messages.specs.declared.message.Message.{Message}
@@ -18,8 +17,7 @@ use Rattle.messages.specs.declared.event.NodeInput.{NodeInput}
 use Rattle.messages.specs.declared.event.NodeInput.TheVariants.{Call, Interrupt, Retry}
 use Rattle.messages.specs.declared.entry.Entry.{Entry}
 use Rattle.messages.specs.declared.outcome.Outcome.{Outcome}
-use Rattle.token_set.specs.rule.Tokens.{raised}
-use Rattle.token_set.specs.rule.Releases.{gave_up}
+use Rattle.token_set.specs.rule.Tokens.{raised, gave_up}
 use Rattle.token_set.specs.declared.gave_up.GaveUp.{GaveUp}
 use Rattle.token_set.specs.declared.gave_up.GaveUp.TheVariants as gives
 use Rattle.model.specs.declared.host.Host.{Host}

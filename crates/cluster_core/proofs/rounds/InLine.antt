@@ -4,7 +4,7 @@ use Rattle.std.specs.List.{list_any}
 use Rattle.std.proofs.Common.{refl, sym, ap, subst, ◌∙◌, inl, inr, arith}
 use Rattle.std.proofs.lemmas.Bool.{leb-true, or_left, or_right}
 use Rattle.std.proofs.lemmas.List.Folds.{list_any-append}
-use Rattle.messages.specs.rule.Wants.{Wants}
+use Rattle.messages.specs.rule.TokenRuns.{Wants}
 use Rattle.messages.specs.declared.message.Blocking.{Blocking}
 use Rattle.messages.specs.declared.actor.Actor.TheVariants.{Server as AServer}
 use Rattle.token_server.proofs.CareLaws.{find-passes}
@@ -13,14 +13,13 @@ use Rattle.model.specs.declared.mode.Mode.{Mode}
 use Rattle.model.specs.rule.Owners.{host_of_call}
 use Rattle.messages.specs.declared.refusal.StepError.{StepError}
 use Rattle.messages.specs.declared.refusal.StepError.TheVariants.{Stranger}
-use Rattle.messages.specs.rule.Reports.{reported}
+use Rattle.messages.specs.rule.Messages.{reported, addressee, host_of, is_within, sending}
 use Rattle.messages.specs.declared.event.ServerInput.TheVariants.{Resend, Learn}
 use Rattle.messages.specs.declared.message.Message.{Message}
 use Rattle.messages.specs.declared.message.Message.TheVariants.{Request, Grant, Revoke, Taken, Released, Conflict, Deny, Freed, Hello, Report}
 use Rattle.messages.specs.declared.outcome.Outcome.{Outcome}
-use Rattle.messages.specs.rule.Messages.{addressee, host_of, is_within, sending}
 use Rattle.messages.proofs.SameMessages.{call_exact, call_refl}
-use Rattle.token_set.specs.rule.Releases.{lowered}
+use Rattle.token_set.specs.rule.Tokens.{lowered}
 use Rattle.token_server.specs.declared.token_queue.token_request.TokenRequest.{TokenRequest}
 use Rattle.token_server.specs.declared.event.ServerEvent.TheVariants.{Input, Deliver}
 use Rattle.token_server.specs.rule.Requests.{is_of_call, is_up_to}

@@ -2,8 +2,7 @@
 use Rattle.std.proofs.Common.{◌≡◌, ℕ, ◌+◌, true, inl, inr, refl, sym, ◌∙◌, ap, subst, List, ◌++◌, Ok}
 use Rattle.std.proofs.lemmas.Bool.{and_parts, eqb-true}
 use Rattle.model.specs.declared.host.Host.{Host}
-use Rattle.messages.specs.rule.Messages.{addressee, is_among}
-use Rattle.messages.specs.rule.Reports.{runs_of}
+use Rattle.messages.specs.rule.Messages.{addressee, is_among, runs_of}
 use Rattle.messages.specs.declared.actor.Actor.{Actor}
 use Rattle.messages.specs.declared.actor.Actor.TheVariants.{Node as ANode, Server as AServer}
 use Rattle.messages.specs.declared.message.Message.{Message}

@@ -7,14 +7,12 @@ use Rattle.intervals.specs.rule.Bytes.{Range}
 use Rattle.model.specs.declared.call.CallId.{CallId}
 use Rattle.model.specs.declared.host.Host.{Host}
 use Rattle.model.specs.declared.mode.Mode.{Mode}
-use Rattle.token_set.specs.rule.Tokens.{raised}
-use Rattle.token_set.specs.rule.Releases.{gave_up}
+use Rattle.token_set.specs.rule.Tokens.{raised, gave_up}
 use Rattle.token_set.specs.declared.gave_up.GaveUp.{GaveUp}
 use Rattle.token_set.specs.declared.gave_up.GaveUp.TheVariants as gives
-use Rattle.messages.specs.rule.Wants.{Wants}
-use Rattle.messages.specs.rule.Epochs.{begin_of}
-use Rattle.messages.specs.rule.Messages.{addressee, file_of, host_of, is_among, is_within}
-use Rattle.messages.specs.rule.Reports.{runs_of}
+use Rattle.messages.specs.rule.TokenRuns.{Wants}
+use Rattle.messages.specs.rule.Shapes.{begin_of}
+use Rattle.messages.specs.rule.Messages.{addressee, file_of, host_of, is_among, is_within, runs_of}
 use Rattle.messages.specs.declared.actor.Actor.{Actor}
 use Rattle.messages.specs.declared.actor.Actor.TheVariants.{Node as ANode}
 use Rattle.messages.specs.declared.message.Message.{Message}

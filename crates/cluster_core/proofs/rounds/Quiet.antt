@@ -5,8 +5,7 @@ use Rattle.std.proofs.lemmas.List.Elements.{All-head, All-tail}
 use Rattle.intervals.specs.rule.Bytes.{nothing}
 use Rattle.model.specs.rule.Descriptors.{no_processes}
 use Rattle.model.specs.rule.Table.{Table}
-use Rattle.messages.specs.rule.Shapes.{ShapeFields}
-use Rattle.messages.specs.rule.Versions.{most_regions}
+use Rattle.messages.specs.rule.Shapes.{ShapeFields, most_regions}
 use Rattle.messages.specs.rule.Messages.{addressee, is_within}
 use Rattle.messages.specs.declared.actor.Actor.{Actor}
 use Rattle.messages.specs.declared.actor.Actor.TheVariants.{Node as ANode, Server as AServer}

@@ -6,16 +6,14 @@ use Rattle.std.proofs.lemmas.Bool.{leb-true, leb-false}
 use Rattle.std.proofs.lemmas.Option.{none-some}
 use Rattle.model.specs.declared.mode.Mode.{Mode}
 use Rattle.model.specs.rule.Owners.{host_of_call}
-use Rattle.messages.proofs.Choices.{at_number}
+use Rattle.messages.proofs.Rules.{at_number}
 use Rattle.messages.specs.declared.refusal.StepError.{StepError}
 use Rattle.messages.specs.declared.refusal.StepError.TheVariants.{Stranger}
 use Rattle.messages.specs.declared.message.Message.{Message}
 use Rattle.messages.specs.declared.message.Message.TheVariants.{Request, Grant, Revoke, Taken, Released, Conflict, Deny, Freed, Hello, Report}
 use Rattle.messages.specs.declared.outcome.Outcome.{Outcome}
-use Rattle.messages.specs.rule.Messages.{addressee, host_of, is_within, sending}
-use Rattle.messages.specs.rule.Reports.{reported}
-use Rattle.token_set.specs.rule.Tokens.{Token}
-use Rattle.token_set.specs.rule.Releases.{lowered}
+use Rattle.messages.specs.rule.Messages.{addressee, host_of, is_within, sending, reported}
+use Rattle.token_set.specs.rule.Tokens.{Token, lowered}
 use Rattle.token_server.specs.declared.token_queue.token_request.TokenRequest.{TokenRequest}
 use Rattle.token_server.specs.rule.Requests.{is_of_call}
 use Rattle.token_server.specs.rule.Rows.{Row, empty_row, row_above, is_hello, is_grant, revoked_mode, asks_token}

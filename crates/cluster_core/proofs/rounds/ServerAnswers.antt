@@ -7,11 +7,9 @@ use Rattle.model.specs.declared.call.CallId.{CallId}
 use Rattle.model.specs.declared.host.Host.{Host}
 use Rattle.model.specs.declared.mode.Mode.{Mode}
 use Rattle.model.specs.rule.Owners.{host_of_call}
-use Rattle.token_set.specs.rule.Tokens.{Token}
-use Rattle.token_set.specs.rule.Releases.{lowered}
-use Rattle.messages.specs.rule.Wants.{Wants}
-use Rattle.messages.specs.rule.Messages.{addressee, host_of, is_within}
-use Rattle.messages.specs.rule.Reports.{reported}
+use Rattle.token_set.specs.rule.Tokens.{Token, lowered}
+use Rattle.messages.specs.rule.TokenRuns.{Wants}
+use Rattle.messages.specs.rule.Messages.{addressee, host_of, is_within, reported}
 use Rattle.messages.specs.declared.actor.Actor.{Actor}
 use Rattle.messages.specs.declared.actor.Actor.TheVariants.{Server as AServer}
 use Rattle.messages.specs.declared.message.Message.{Message}

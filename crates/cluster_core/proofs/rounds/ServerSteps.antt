@@ -12,7 +12,7 @@ use Rattle.messages.specs.declared.message.Message.{Message}
 use Rattle.messages.specs.declared.message.Message.TheVariants.{Request, Grant, Revoke, Taken, Released, Conflict, Deny, Freed, Hello, Report}
 use Rattle.messages.specs.declared.outcome.Outcome.{Outcome}
 use Rattle.messages.specs.rule.Messages.{addressee, host_of, is_within, sending}
-use Rattle.token_set.specs.rule.Releases.{lowered}
+use Rattle.token_set.specs.rule.Tokens.{lowered}
 use Rattle.token_server.specs.declared.token_queue.token_request.TokenRequest.{TokenRequest}
 use Rattle.token_server.specs.rule.Requests.{is_of_call, is_up_to}
 use Rattle.token_server.specs.rule.Rows.{Row, is_grant, revoked_mode, asks_token}

@@ -12,11 +12,9 @@ use Rattle.token_server.specs.declared.token_queue.token_request.TokenRequest.{T
 use Rattle.token_server.specs.rule.Rows.{row_conflicts}
 use Rattle.token_server.specs.rule.State.{ServerState, awaits, requests}
 use Rattle.token_server.specs.rule.Serve.{served, with_more, and_then, each_served, ready, serve}
-use Rattle.token_server.specs.rule.Obstacles.{obstacle, are_apart, is_idle}
-use Rattle.token_server.specs.rule.Obstacles.{all_stay}
+use Rattle.token_server.specs.rule.Obstacles.{obstacle, are_apart, is_idle, all_stay}
 use Rattle.cluster_core.specs.rule.Serving.{IsWanted, IsBusy, IsServing}
-use Rattle.token_server.proofs.StayLaws.{admitted-stay}
-use Rattle.token_server.proofs.AdmittingLaws.{apart-admitted}
+use Rattle.token_server.proofs.AdmittingLaws.{admitted-stay, apart-admitted}
 use Rattle.token_server.proofs.ReadyLaws.{stay-all}
 use Rattle.token_server.proofs.CareLaws.{All-left, All-right, active-each, ready-each}
 use Rattle.token_server.proofs.ObstacleLaws.{Leaves, obstacle-same, served-leaves}

@@ -5,8 +5,7 @@ use Rattle.std.proofs.lemmas.Bool.{and_parts, both_ways, eqb-true}
 use Rattle.std.proofs.lemmas.Option.{none-some, same_Some}
 use Rattle.std.proofs.lemmas.List.Elements.{All-nil, All-cons}
 use Rattle.model.specs.declared.call.CallId.{CallId}
-use Rattle.messages.specs.rule.Shapes.{ShapeFields}
-use Rattle.messages.specs.rule.Versions.{may_rebuild}
+use Rattle.messages.specs.rule.Shapes.{ShapeFields, may_rebuild}
 use Rattle.messages.specs.rule.Messages.{addressee, is_among, greatest_number}
 use Rattle.messages.specs.declared.actor.Actor.{Actor}
 use Rattle.messages.specs.declared.actor.Actor.TheVariants.{Node as ANode, Server as AServer}

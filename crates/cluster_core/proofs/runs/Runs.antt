@@ -11,7 +11,7 @@ use Rattle.cluster_core.specs.rule.Runs.{Leads}
 use Rattle.cluster_core.specs.rule.Safe.{IsSafe}
 use Rattle.cluster_core.specs.rule.Histories.{HasHistory, EachAtItsPlace, EveryRunHasAHistory}
 use Rattle.cluster_core.specs.rule.Evidence.{EveryDenialHasEvidence, EveryGrantServes, NoWaitIsDenied}
-use Rattle.cluster_core.specs.code.Placement.{slots_of, items_in, history_of}
+use Rattle.cluster_core.specs.code.Calls.{slots_of, items_in, history_of}
 use Rattle.cluster_core.specs.rule.Plain.{EveryRunHasAPlainHistory}
 use Rattle.cluster_core.proofs.tokens.Covering.{Covered, first_covered}
 use Rattle.cluster_core.proofs.tokens.Served.{all_covered, next_covered}

@@ -1,8 +1,8 @@
 -- A refusal of an actor's own step is a refusal of the world.
 use Rattle.std.specs.Prelude.{◌≢◌, Bool, true, false, cond, not, ◌&&◌, nat_le}
 use Rattle.std.proofs.Common.{◌≡◌, ℕ, refl, sym, ◌∙◌, ap, Result, Ok, Err}
-use Rattle.messages.specs.rule.Refusals.{refused_by}
-use Rattle.messages.specs.rule.Versions.{may_rebuild}
+use Rattle.messages.specs.rule.Entries.{refused_by}
+use Rattle.messages.specs.rule.Shapes.{may_rebuild}
 use Rattle.messages.specs.declared.event.Event.{Event}
 use Rattle.messages.specs.declared.event.Event.TheVariants.{Member}
 use Rattle.messages.specs.declared.event.MemberEvent.TheVariants.{Declare, FailServer}

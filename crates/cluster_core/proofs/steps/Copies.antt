@@ -1,7 +1,6 @@
 -- A world that keeps another copy of an actor's state, which is equal.
-use Rattle.std.specs.Prelude.{slice_set, slice_index_or, ◌-◌}
+use Rattle.std.specs.Prelude.{slice_set, slice_index_or, ◌-◌, OnErr, is_err}
 use Rattle.std.proofs.Common.{◌≡◌, ℕ, ◌<◌, ◌≤◌, Bool, true, if◌then◌else◌, refl, sym, ◌∙◌, ap, arith, List, length, Option, Some, None, Result, Ok, Err}
-use Rattle.std.specs.Prelude.{OnErr, is_err}
 use Rattle.std.specs.declared.alloc.AllocError.{AllocError}
 use Rattle.std.proofs.lemmas.List.{length-set, set-set, set-get_or}
 use Rattle.messages.specs.rule.Entries.{NamesItsIncarnation}
@@ -19,14 +18,13 @@ use Rattle.token_server.specs.code.Edits.{planned, Fits as ServerFits}
 use Rattle.token_server.specs.rule.Server.{server_rule}
 use Rattle.token_server.specs.rule.Parts.{ServerParts, server_state}
 use Rattle.token_server.specs.rule.State.{ServerState, first_server}
-use Rattle.messages.specs.rule.Parts.{incarnation_of}
+use Rattle.messages.specs.rule.Members.{incarnation_of}
 use Rattle.cluster_core.specs.rule.Parts.{WorldParts, IsWorld, seated, listed, alive_at, works_at, world_state}
 use Rattle.cluster_core.specs.declared.world.world_change.WorldChange.TheVariants.{OfNode, OfServer}
 use Rattle.cluster_core.specs.rule.World.{journal_limit}
 use Rattle.cluster_core.specs.rule.Next.{is_known, named_incarnation, after_node, after_server}
 use Rattle.cluster_core.specs.rule.Actors.{HasNode, HasServer, node_event, server_event, node_step, server_step}
-use Rattle.cluster_core.specs.code.Changes.{Plans}
-use Rattle.cluster_core.specs.code.Copies.{with_node_copy, with_server_copy}
+use Rattle.cluster_core.specs.code.Changes.{Plans, with_node_copy, with_server_copy}
 use Rattle.cluster_core.proofs.common.Choices.{at_number}
 use Rattle.cluster_core.proofs.common.Numbered.{within_is, put_at}
 use Rattle.cluster_core.proofs.steps.WorldSteps.{read_node, read_server}

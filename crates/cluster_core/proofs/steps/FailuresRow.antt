@@ -18,8 +18,7 @@ use Rattle.messages.specs.declared.event.MemberEvent.TheVariants.{Declare, Resta
 use Rattle.messages.specs.declared.entry.Entry.{Entry}
 use Rattle.messages.specs.declared.message.Message.{Message}
 use Rattle.messages.specs.declared.message.Message.TheVariants.{Hello, Report}
-use Rattle.messages.specs.rule.Reports.{runs_of}
-use Rattle.messages.specs.rule.Messages.{sending}
+use Rattle.messages.specs.rule.Messages.{runs_of, sending}
 use Rattle.token_set.specs.rule.Tokens.{no_token}
 use Rattle.token_server.specs.rule.State.{awaits}
 use Rattle.cluster_core.specs.rule.World.{WorldState, first_world}

@@ -12,7 +12,7 @@ use Rattle.std.specs.HashMap.{get, Updates as Places_Updates}
 use Rattle.messages.specs.declared.message.Message.{Message}
 use Rattle.messages.specs.rule.Messages.{same_message, is_among}
 use Rattle.messages.proofs.SameMessages.{same_message-is-equality}
-use Rattle.cluster_core.specs.code.SentIndexes.{Places, Others, fingerprint, is_this, stands_at, stands_among, has, KnowsFirst, Knows, SaysTheSame}
+use Rattle.cluster_core.specs.code.Changes.{Places, Others, fingerprint, is_this, stands_at, stands_among, has, KnowsFirst, Knows, SaysTheSame}
 
 pub is_among-append : (xs ys : List Message) (m : Message) → is_among (xs ++ ys) m ≡ (is_among xs m || is_among ys m)
 is_among-append xs ys m = list_any-append (same_message m) xs ys

@@ -15,9 +15,8 @@ use Rattle.messages.specs.declared.outcome.Outcome.{Outcome}
 use Rattle.messages.specs.declared.entry.Entry.{Entry}
 use Rattle.messages.specs.declared.refusal.Refused.{Refused}
 use Rattle.messages.specs.declared.refusal.Refused.TheVariants.{Stranger, NotAlive, NotDead, TooManyRestarts}
-use Rattle.messages.specs.rule.Members.{MembersState, live_incarnation, declared_failed, with_declared, with_restarted}
+use Rattle.messages.specs.rule.Members.{MembersState, live_incarnation, declared_failed, with_declared, with_restarted, MemberParts, MembersParts, alive_in, incarnation_in, incarnation_of, members_state}
 use Rattle.messages.specs.rule.Members as member
-use Rattle.messages.specs.rule.Parts.{MemberParts, MembersParts, alive_in, incarnation_in, incarnation_of, members_state}
 use Rattle.messages.proofs.Rules.{declaration, restart}
 use Rattle.node_core.specs.rule.Parts.{NodeParts, node_state}
 use Rattle.node_core.specs.rule.State.{NodeState, first_node}

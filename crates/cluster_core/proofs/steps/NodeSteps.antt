@@ -8,10 +8,9 @@ use Rattle.model.specs.declared.reply.Reply.TheVariants.{Interrupted}
 use Rattle.model.specs.rule.Table.{Table}
 use Rattle.messages.specs.declared.message.Message.{Message}
 use Rattle.messages.specs.declared.message.Message.TheVariants.{Report}
-use Rattle.messages.specs.rule.Reports.{runs_of}
+use Rattle.messages.specs.rule.Messages.{runs_of, addressee, host_of, file_of, is_within, greatest_number}
 use Rattle.messages.specs.declared.outcome.Outcome.{Outcome}
 use Rattle.messages.specs.declared.refusal.StepError.TheVariants.{Busy, Stranger, Spent}
-use Rattle.messages.specs.rule.Messages.{addressee, host_of, file_of, is_within, greatest_number}
 use Rattle.model.specs.declared.op.LockCommand.{LockCommand}
 use Rattle.model.specs.declared.op.LockCommand.TheVariants as lock_command
 use Rattle.node_core.specs.declared.open_call.OpenCall.{OpenCall}

@@ -15,11 +15,10 @@ use Rattle.model.specs.declared.reply.Reply.{Reply}
 use Rattle.model.specs.rule.Locks.{lowest_blocker}
 use Rattle.model.specs.rule.Descriptors.{is_of_file, has_open}
 use Rattle.model.specs.rule.Table.{Table, LockTarget, around, descriptor, target, call_target, lock_within, after_close, after_exit}
-use Rattle.token_set.specs.rule.Tokens.{Token, covers, raised}
-use Rattle.token_set.specs.rule.Releases.{gave_up, after_giving_up}
+use Rattle.token_set.specs.rule.Tokens.{Token, covers, raised, gave_up, after_giving_up}
 use Rattle.token_set.specs.declared.gave_up.GaveUp.{GaveUp}
 use Rattle.token_set.specs.declared.gave_up.GaveUp.TheVariants as gives
-use Rattle.messages.specs.rule.Wants.{Wants}
+use Rattle.messages.specs.rule.TokenRuns.{Wants}
 use Rattle.messages.specs.declared.message.Message.{Message}
 use Rattle.messages.specs.declared.message.Message.TheVariants.{Request, Grant, Revoke, Taken, Freed}
 use Rattle.messages.specs.rule.Messages.{same_message, is_among, host_of}

@@ -16,14 +16,13 @@ use Rattle.model.specs.rule.Descriptors.{is_of_file, has_open}
 use Rattle.model.specs.rule.Table.{Table, LockTarget, around, descriptor, target, call_target, lock_within, after_close, after_exit}
 use Rattle.model.specs.declared.policy.Policy.{Policy}
 use Rattle.model.specs.declared.policy.Policy.TheVariants.{Wide, Exact}
-use Rattle.token_set.specs.rule.Tokens.{Token, holds_nothing, covers, desired, raised}
-use Rattle.token_set.specs.rule.Releases.{given_up_span, answer_of}
-use Rattle.messages.specs.rule.Wants.{Wants}
+use Rattle.token_set.specs.rule.Tokens.{Token, holds_nothing, covers, desired, raised, given_up_span, answer_of}
+use Rattle.messages.specs.rule.TokenRuns.{Wants}
 use Rattle.messages.specs.declared.message.Message.{Message}
 use Rattle.messages.specs.declared.message.Message.TheVariants.{Request, Grant, Revoke, Taken, Released, Conflict, Deny, Freed, Hello, Report}
 use Rattle.messages.specs.declared.token_run.TokenRun.{TokenRun}
-use Rattle.messages.specs.rule.Epochs.{begin_of}
-use Rattle.messages.specs.rule.Reports.{runs_of}
+use Rattle.messages.specs.rule.Shapes.{begin_of}
+use Rattle.messages.specs.rule.Messages.{runs_of}
 use Rattle.model.specs.declared.op.LockCommand.{LockCommand}
 use Rattle.model.specs.declared.op.LockCommand.TheVariants as lock_command
 use Rattle.node_core.specs.declared.open_call.OpenCall.{OpenCall}

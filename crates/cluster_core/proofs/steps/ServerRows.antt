@@ -13,19 +13,17 @@ use Rattle.model.specs.declared.call.CallId.{CallId}
 use Rattle.model.specs.declared.host.Host.{Host}
 use Rattle.model.specs.declared.lock_info.LockInfo.{LockInfo}
 use Rattle.model.specs.rule.Owners.{host_of_call}
-use Rattle.token_set.specs.rule.Tokens.{Token}
-use Rattle.token_set.specs.rule.Releases.{lowered}
-use Rattle.token_set.proofs.SearchLaws.{some_passes-first, some_passes-none}
+use Rattle.token_set.specs.rule.Tokens.{Token, lowered}
+use Rattle.token_set.proofs.TokenLaws.{some_passes-first, some_passes-none}
 use Rattle.messages.specs.declared.message.Message.{Message}
 use Rattle.messages.specs.declared.message.Message.TheVariants.{Request, Grant, Revoke, Taken, Released, Conflict, Deny, Freed, Hello, Report}
 use Rattle.messages.specs.declared.token_run.TokenRun.{TokenRun}
-use Rattle.messages.specs.rule.Reports.{reported}
+use Rattle.messages.specs.rule.Messages.{reported, addressee, host_of, same_blocking, greatest_number, is_within, sending}
 use Rattle.messages.specs.declared.refusal.StepError.{StepError}
 use Rattle.messages.specs.declared.message.Blocking.TheVariants.{No}
 use Rattle.messages.specs.declared.actor.Actor.TheVariants.{Server as AServer}
 use Rattle.messages.specs.declared.refusal.StepError.TheVariants.{Spent}
 use Rattle.messages.specs.declared.outcome.Outcome.{Outcome}
-use Rattle.messages.specs.rule.Messages.{addressee, host_of, same_blocking, greatest_number, is_within, sending}
 use Rattle.messages.specs.rule.Shapes.{ShapeFields}
 use Rattle.node_core.specs.rule.State.{NodeState}
 use Rattle.token_server.specs.declared.token_queue.token_request.TokenRequest.{TokenRequest}
@@ -37,7 +35,7 @@ use Rattle.token_server.specs.rule.Serve.{is_taken, narrowed, granted_span, conf
 use Rattle.token_server.specs.rule.Resends.{sending_first}
 use Rattle.token_server.specs.rule.Server.{Change, with_a_row, request_of, enqueued, asked, acknowledged, ended, put_off, postponed, denial, row_of_host, taken, released, in_conflict, heard, freed, delivered, change, then_serve, server_rule}
 use Rattle.token_server.proofs.CareLaws.{find-each, find-passes, active-each, ready-each, requeued-each, freed-each, ended-each, postponed-each, forgotten-each, forgotten-young, enqueued-each}
-use Rattle.token_server.proofs.MarkLaws.{row_free}
+use Rattle.token_server.proofs.KnownNodeLaws.{row_free}
 use Rattle.token_server.proofs.GrantLaws.{conflicts_at, conflicts_at_byte}
 use Rattle.cluster_core.proofs.common.Choices.{if_either, at_number}
 use Rattle.cluster_core.proofs.common.Refusals.{ok_is}

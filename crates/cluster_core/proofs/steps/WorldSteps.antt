@@ -1,7 +1,6 @@
 -- A world after the step of one of its actors.
-use Rattle.std.specs.Prelude.{slice_set, slice_index_or, ◌==◌, ◌-◌}
+use Rattle.std.specs.Prelude.{slice_set, slice_index_or, ◌==◌, ◌-◌, IfOk}
 use Rattle.std.proofs.Common.{◌≡◌, ℕ, ◌+◌, ◌<◌, ◌≤◌, Bool, true, if◌then◌else◌, refl, sym, ◌∙◌, ap, subst, arith, List, [], ◌++◌, length}
-use Rattle.std.specs.Prelude.{IfOk}
 use Rattle.std.specs.declared.option.Option.{Option}
 use Rattle.std.specs.declared.option.Option.TheVariants.{None, Some}
 use Rattle.std.specs.declared.result.Result.{Result}
@@ -37,8 +36,7 @@ use Rattle.cluster_core.specs.rule.Next.{with_node, with_server, recorded, entry
 use Rattle.cluster_core.specs.rule.Parts.{WorldParts, IsWorld, IsRest, numbered, seated, listed, alive_at, works_at, world_state}
 use Rattle.cluster_core.specs.rule.Actors.{node_event, server_event}
 use Rattle.cluster_core.proofs.common.Choices.{at_number, one_event}
-use Rattle.messages.specs.rule.Members.{MembersState, first_members}
-use Rattle.messages.specs.rule.Parts.{incarnation_in, incarnation_of, members_state}
+use Rattle.messages.specs.rule.Members.{MembersState, first_members, incarnation_in, incarnation_of, members_state}
 use Rattle.cluster_core.proofs.common.Numbered.{within_is, put_at, read_number}
 use Rattle.cluster_core.proofs.steps.NodeNumbers.{NamesBy, node_rule-steps}
 use Rattle.cluster_core.proofs.steps.ServerSteps.{server_rule-sending, server_rule-epoch}

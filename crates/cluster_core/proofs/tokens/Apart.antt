@@ -8,14 +8,12 @@ use Rattle.model.specs.declared.call.CallId.{CallId}
 use Rattle.model.specs.declared.host.Host.{Host}
 use Rattle.model.specs.declared.op.Op.{Op}
 use Rattle.token_set.specs.rule.Tokens.{Token, no_token}
-use Rattle.messages.specs.rule.Shapes.{ShapeFields}
-use Rattle.messages.specs.rule.Epochs.{begin_of}
-use Rattle.messages.specs.rule.Messages.{addressee, host_of, file_of, is_among, is_within, sending}
+use Rattle.messages.specs.rule.Shapes.{ShapeFields, begin_of}
+use Rattle.messages.specs.rule.Messages.{addressee, host_of, file_of, is_among, is_within, sending, runs_of}
 use Rattle.messages.specs.declared.actor.Actor.{Actor}
 use Rattle.messages.specs.declared.actor.Actor.TheVariants.{Node as ANode, Server as AServer}
 use Rattle.messages.specs.declared.message.Message.{Message}
 use Rattle.messages.specs.declared.message.Message.TheVariants.{Grant, Revoke, Deny, Hello, Report}
-use Rattle.messages.specs.rule.Reports.{runs_of}
 use Rattle.messages.proofs.Reports.{Ends, tells_token}
 use Rattle.messages.specs.declared.event.Event.{Event}
 use Rattle.messages.specs.declared.event.Event.TheVariants.{AtNode, AtServer, Deliver, Member}

@@ -13,9 +13,9 @@ use Rattle.model.specs.rule.Owners.{owner_at, most_owners}
 use Rattle.model.specs.rule.Locks.{FileLocks, bars, region_at, IsRegion, IsOfNode, IsClear, IsLowestInWay, lowest_in_way}
 use Rattle.model.proofs.AnswerLaws.{Answers, first_answer_is}
 use Rattle.model.proofs.WayLaws.{lowest_in_way_is_lowest}
-use Rattle.token_set.specs.rule.Releases.{is_in_way, given_up_span, answer_of, gave_up}
+use Rattle.token_set.specs.rule.Tokens.{is_in_way, given_up_span, answer_of, gave_up}
 use Rattle.token_set.specs.declared.gave_up.GaveUp.TheVariants.{Released}
-use Rattle.token_set.proofs.SearchLaws.{some_passes-first, some_passes-from, all_pass-each}
+use Rattle.token_set.proofs.TokenLaws.{some_passes-first, some_passes-from, all_pass-each}
 
 -- no byte of the largest span is barred, if none of the required ones is
 pub around_free : (barred : ℕ → Bool) (required within : Range) → NoneIn (λ b. barred b ≡ true) required → NoneIn (λ b. barred b ≡ true) (largest_around barred required within)

@@ -20,18 +20,16 @@ use Rattle.model.specs.rule.Locks.{FileLocks, Locks, IsOfNode, bars, with_lock, 
 use Rattle.model.specs.rule.Descriptors.{Processes, is_of_file, has_open, after}
 use Rattle.model.specs.rule.Table.{Table, LockTarget, around, descriptor, beside, target, call_target, lock_within, locked, regions_with, after_close, after_exit}
 use Rattle.model.proofs.Closings.{AreFewer, fewer_after_close, fewer_after_exit}
-use Rattle.token_set.specs.rule.Tokens.{Token, serves, covers, raised, raised_level}
-use Rattle.token_set.specs.rule.Releases.{gave_up, after_giving_up}
+use Rattle.token_set.specs.rule.Tokens.{Token, serves, covers, raised, raised_level, gave_up, after_giving_up}
 use Rattle.token_set.specs.declared.gave_up.GaveUp.{GaveUp}
 use Rattle.token_set.specs.declared.gave_up.GaveUp.TheVariants.{Released, Conflict}
 use Rattle.token_set.proofs.TokenLaws.{covers-each}
 use Rattle.token_set.proofs.ReleaseLaws.{lowering_keeps_locks}
 use Rattle.messages.specs.declared.event.NodeInput.TheVariants.{Call, Interrupt, Retry}
-use Rattle.messages.specs.rule.Shapes.{ShapeFields}
-use Rattle.messages.specs.rule.Wants.{Wants}
+use Rattle.messages.specs.rule.Shapes.{ShapeFields, begin_of}
+use Rattle.messages.specs.rule.TokenRuns.{Wants}
 use Rattle.messages.specs.declared.message.Message.{Message}
 use Rattle.messages.specs.declared.message.Message.TheVariants.{Grant, Revoke, Taken, Deny, Hello}
-use Rattle.messages.specs.rule.Epochs.{begin_of}
 use Rattle.messages.specs.declared.outcome.Outcome.{Outcome}
 use Rattle.node_core.specs.declared.event.NodeEvent.{NodeEvent}
 use Rattle.node_core.specs.declared.event.NodeEvent.TheVariants.{Input, Deliver}

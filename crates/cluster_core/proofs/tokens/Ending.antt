@@ -5,8 +5,7 @@ use Rattle.intervals.specs.rule.Bytes.{Range, greatest, is_in}
 use Rattle.model.specs.declared.mode.Mode.{Mode}
 use Rattle.model.specs.declared.mode.Mode.TheVariants.{Read, Write}
 use Rattle.model.specs.declared.level.Level.{Level}
-use Rattle.token_set.specs.rule.Tokens.{Token, raised, raised_level}
-use Rattle.token_set.specs.rule.Releases.{lowered, lowered_level}
+use Rattle.token_set.specs.rule.Tokens.{Token, raised, raised_level, lowered, lowered_level}
 use Rattle.messages.specs.declared.message.Message.{Message}
 use Rattle.messages.specs.declared.message.Message.TheVariants.{Grant, Revoke, Released, Deny, Hello}
 use Rattle.node_core.specs.rule.State.{FileState, NodeState, Effect, open_call}

@@ -2,7 +2,7 @@
 use Rattle.std.specs.Prelude.{nat_lt}
 use Rattle.std.proofs.Common.{◌≡◌, ℕ, zero, ◌+◌, ◌-◌, ◌*◌, ◌/◌, ◌<◌, ◌≤◌, if◌then◌else◌, arith, le-div_iff_mul-le, None}
 use Rattle.std.proofs.Math.Nat.{div-lt_iff_lt-mul}
-use Rattle.messages.specs.rule.Epochs.{before_epoch, begin_of}
+use Rattle.messages.specs.rule.Shapes.{before_epoch, begin_of}
 use Rattle.messages.proofs.Reports.{Ends}
 use Rattle.cluster_core.proofs.common.Choices.{if_either, at_number}
 use Rattle.node_core.specs.rule.State.{FileState, NodeState}

@@ -5,8 +5,7 @@ use Rattle.model.specs.declared.mode.Mode.{Mode}
 use Rattle.model.specs.declared.mode.Mode.TheVariants.{Read, Write}
 use Rattle.model.specs.declared.level.Level.{Level}
 use Rattle.model.specs.declared.level.Level.TheVariants.{Shared, Exclusive}
-use Rattle.token_set.specs.rule.Tokens.{Token, raised, raised_level, level_conflicts}
-use Rattle.token_set.specs.rule.Releases.{IsAtMost}
+use Rattle.token_set.specs.rule.Tokens.{Token, raised, raised_level, level_conflicts, IsAtMost}
 use Rattle.token_set.proofs.TokenLaws.{raised-at, exclusive-conflicts}
 use Rattle.token_set.proofs.ReleaseLaws.{at_most-none, at_most-exclusive}
 use Rattle.cluster_core.specs.rule.Safe.{Excludes}

@@ -8,8 +8,7 @@ use Rattle.token_set.specs.rule.Tokens.{Token}
 use Rattle.messages.specs.declared.token_run.TokenRun.{TokenRun}
 use Rattle.messages.specs.declared.message.Message.{Message}
 use Rattle.messages.specs.declared.message.Message.TheVariants.{Report}
-use Rattle.messages.specs.rule.Messages.{host_of}
-use Rattle.messages.specs.rule.Reports.{reported}
+use Rattle.messages.specs.rule.Messages.{host_of, reported}
 use Rattle.node_core.specs.rule.State.{FileState}
 use Rattle.token_server.specs.rule.Rows.{Row, empty_row, row_above, is_hello}
 use Rattle.cluster_core.proofs.tokens.Talks.{Sent, IsHostOf, IsCommandTo, IsAnswerOf, same_command, promised, settled, in_epoch, IsCountedIn, IsIdle, States, IsKnown, InStep, IsLast, Talk, MayHold}

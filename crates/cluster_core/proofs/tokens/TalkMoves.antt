@@ -8,9 +8,8 @@ use Rattle.token_set.specs.rule.Tokens.{Token}
 use Rattle.messages.specs.declared.token_run.TokenRun.{TokenRun}
 use Rattle.messages.specs.declared.message.Message.{Message}
 use Rattle.messages.specs.declared.message.Message.TheVariants.{Grant, Revoke, Taken, Released, Conflict, Report}
-use Rattle.messages.specs.rule.Epochs.{begin_of}
-use Rattle.messages.specs.rule.Messages.{host_of}
-use Rattle.messages.specs.rule.Reports.{reported}
+use Rattle.messages.specs.rule.Shapes.{begin_of}
+use Rattle.messages.specs.rule.Messages.{host_of, reported}
 use Rattle.node_core.specs.rule.State.{FileState}
 use Rattle.node_core.specs.rule.Commands.{renewed}
 use Rattle.token_server.specs.rule.Rows.{Row, is_hello}

@@ -5,13 +5,11 @@ use Rattle.std.proofs.lemmas.Bool.{both_ways}
 use Rattle.std.proofs.lemmas.Option.{same_Some}
 use Rattle.model.specs.declared.mode.Mode.{Mode}
 use Rattle.model.specs.declared.host.Host.{Host}
-use Rattle.token_set.specs.rule.Tokens.{Token, no_token, raised, level_conflicts}
-use Rattle.token_set.specs.rule.Releases.{lowered}
+use Rattle.token_set.specs.rule.Tokens.{Token, no_token, raised, level_conflicts, lowered}
 use Rattle.token_set.proofs.ReleaseLaws.{lowering_lowers}
-use Rattle.messages.specs.rule.Messages.{host_of}
+use Rattle.messages.specs.rule.Messages.{host_of, reported}
 use Rattle.messages.specs.declared.message.Message.{Message}
 use Rattle.messages.specs.declared.message.Message.TheVariants.{Grant, Revoke, Taken, Released, Conflict, Hello, Report}
-use Rattle.messages.specs.rule.Reports.{reported}
 use Rattle.node_core.specs.rule.State.{FileState}
 use Rattle.token_server.specs.rule.Rows.{Row, is_hello, is_awaited, row_conflicts_at}
 use Rattle.cluster_core.specs.rule.Numbers.{is_command}

@@ -3,7 +3,7 @@ use Rattle.std.specs.Prelude.{◌≡◌, true, List}
 use Rattle.intervals.specs.rule.Bytes.{Range}
 use Rattle.model.specs.declared.mode.Mode.{Mode}
 use Rattle.messages.specs.rule.Shapes.{ShapeFields, IsShape}
-use Rattle.messages.specs.rule.Wants.{Wants}
+use Rattle.messages.specs.rule.TokenRuns.{Wants}
 use Rattle.messages.specs.rule.Messages.{is_among}
 use Rattle.messages.specs.declared.message.Message.{Message}
 use Rattle.messages.specs.declared.message.Message.TheVariants.{Grant, Revoke, Taken, Released, Conflict, Hello, Report}

@@ -12,12 +12,11 @@ use Rattle.model.specs.declared.op.LockCommand.TheVariants.{Wait}
 use Rattle.model.specs.declared.process.Process.{Process}
 use Rattle.model.specs.rule.Locks.{Blocks}
 use Rattle.model.specs.rule.Table.{Table, LockTarget, call_target}
-use Rattle.messages.specs.rule.Shapes.{ShapeFields, IsShape}
-use Rattle.messages.specs.rule.Wants.{Wants}
+use Rattle.messages.specs.rule.Shapes.{ShapeFields, IsShape, begin_of}
+use Rattle.messages.specs.rule.TokenRuns.{Wants}
 use Rattle.messages.specs.declared.message.Message.TheVariants.{Grant, Revoke, Conflict, Deny}
 use Rattle.messages.specs.declared.event.Event.TheVariants.{Deliver}
 use Rattle.messages.specs.declared.entry.Entry.{Entry}
-use Rattle.messages.specs.rule.Epochs.{begin_of}
 use Rattle.messages.specs.rule.Messages.{is_among}
 use Rattle.node_core.specs.rule.State.{host}
 use Rattle.cluster_core.specs.rule.World.{WorldState, first_world, has_node}

@@ -12,8 +12,7 @@ use Rattle.model.specs.rule.Limits.{IsProcess}
 use Rattle.model.specs.rule.Table.{Table, empty_table, gone}
 use Rattle.model.specs.rule.Step.{Step}
 use Rattle.messages.specs.declared.version.Version.{Version}
-use Rattle.messages.specs.rule.Versions.{most_regions}
-use Rattle.messages.specs.rule.Shapes.{ShapeFields, IsShape}
+use Rattle.messages.specs.rule.Shapes.{most_regions, ShapeFields, IsShape}
 use Rattle.messages.specs.rule.Messages.{is_conflict}
 use Rattle.messages.specs.declared.message.Message.TheVariants.{Deny}
 use Rattle.messages.specs.declared.event.Event.{Event}

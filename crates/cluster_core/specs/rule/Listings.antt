@@ -4,7 +4,7 @@ use Rattle.intervals.specs.rule.Bytes.{Range, IsRun}
 use Rattle.model.specs.declared.level.Level.{Level}
 use Rattle.model.specs.declared.lock_info.LockInfo.{LockInfo}
 use Rattle.model.specs.rule.Locks.{IsRegion}
-use Rattle.lock_table.specs.rule.Listing.{IsBefore}
+use Rattle.lock_table.specs.rule.Tables.{IsBefore}
 use Rattle.cluster_core.specs.declared.held_lock.HeldLock.{HeldLock}
 use Rattle.cluster_core.specs.declared.node_token_run.NodeTokenRun.{NodeTokenRun}
 use Rattle.cluster_core.specs.rule.World.{WorldState, has_file, is_live}

@@ -3,9 +3,8 @@ use Rattle.std.specs.Prelude.{ℕ, ◌+◌, Bool, true, false, not, ◌&&◌, �
 use Rattle.messages.specs.declared.refusal.StepError.{StepError}
 use Rattle.messages.specs.declared.refusal.Refused.{Refused}
 use Rattle.messages.specs.declared.refusal.Refused.TheVariants.{Stranger, JournalFull, NotAlive, NotDead, TooManyRestarts, Fenced}
-use Rattle.messages.specs.rule.Shapes.{ShapeFields}
-use Rattle.messages.specs.rule.Versions.{may_rebuild}
-use Rattle.messages.specs.rule.Refusals.{refused_by}
+use Rattle.messages.specs.rule.Shapes.{ShapeFields, may_rebuild}
+use Rattle.messages.specs.rule.Entries.{refused_by}
 use Rattle.messages.specs.declared.message.Message.{Message}
 use Rattle.messages.specs.declared.event.Event.{Event}
 use Rattle.messages.specs.declared.event.Event.TheVariants.{AtNode, AtServer, Deliver, Member}

@@ -2,8 +2,8 @@
 use Rattle.std.specs.Prelude.{◌≡◌, ℕ, Bool, true, false, ◌+◌, ◌≤◌, List, length}
 use Rattle.messages.specs.rule.Shapes.{ShapeFields}
 use Rattle.messages.specs.declared.message.Message.{Message}
-use Rattle.messages.specs.rule.Parts.{MembersParts, alive_in, incarnation_in, incarnation_of}
-pub use Rattle.messages.specs.rule.Numbered.{numbered, IsRest}
+use Rattle.messages.specs.rule.Members.{MembersParts, alive_in, incarnation_in, incarnation_of}
+pub use Rattle.messages.specs.rule.Members.{numbered, IsRest}
 use Rattle.node_core.specs.rule.Parts.{NodeParts, node_state}
 use Rattle.node_core.specs.rule.State.{NodeState, first_node}
 use Rattle.token_server.specs.rule.Parts.{ServerParts, server_state}

@@ -8,7 +8,7 @@ use Rattle.model.specs.declared.op.LockCommand.TheVariants.{Wait}
 use Rattle.model.specs.rule.Locks.{lowest_blocker}
 use Rattle.token_set.specs.rule.Tokens.{covers}
 use Rattle.messages.specs.rule.Shapes.{ShapeFields, IsShape}
-use Rattle.messages.specs.rule.Wants.{Wants}
+use Rattle.messages.specs.rule.TokenRuns.{Wants}
 use Rattle.messages.specs.declared.message.Message.TheVariants.{Request}
 use Rattle.messages.specs.declared.outcome.Outcome.{Outcome}
 use Rattle.messages.specs.declared.entry.Entry.{Entry}

@@ -3,7 +3,7 @@ use Rattle.std.specs.Prelude.{◌&&◌, if◌then◌else◌}
 use Rattle.intervals.specs.rule.Bytes.{nothing}
 use Rattle.model.specs.rule.Descriptors.{no_processes}
 use Rattle.model.specs.rule.Table.{Table}
-use Rattle.messages.specs.rule.Versions.{most_regions}
+use Rattle.messages.specs.rule.Shapes.{most_regions}
 use Rattle.cluster_core.specs.rule.World.{WorldState, is_alive, is_live}
 
 -- the processes, descriptors and locks of all nodes in one table, where a node that is not alive has none

@@ -14,12 +14,10 @@ ghost use Rattle.cluster_core.specs.rule.Parts.{world_state};
 ghost use Rattle.cluster_core.specs.rule.Journals.{GoesOn};
 
 use super::Run;
-use messages::event::{Event, MemberEvent};
-use messages::outcome::Outcome;
-use messages::refusal::Refused;
-use node_core::node::Node;
+use messages::{Event, MemberEvent, Outcome, Refused};
+use node_core::Node;
 use std::alloc::Global;
-use token_server::server::Server;
+use token_server::Server;
 
 impl Run {
     /// The number of entries: at most 1,048,576.

@@ -15,12 +15,10 @@ ghost use Rattle.messages.specs.declared.event.Event.TheVariants.{Member};
 
 use super::Run;
 use crate::world::world_change::WorldChange;
-use messages::event::{Event, NodeInput};
-use node_core::change::NodeChange;
-use node_core::node::Node;
+use messages::{Event, NodeInput};
+use node_core::{Node, NodeChange};
 use std::alloc::{AllocError, Global};
-use token_server::change::ServerChange;
-use token_server::server::Server;
+use token_server::{Server, ServerChange};
 
 // The incarnation that the entry of an event at the node names, or 0.
 fn named_incarnation(node: &Node, event: &Event) -> u16

@@ -11,16 +11,10 @@ ghost use Rattle.messages.specs.declared.refusal.Refused.{Refused};
 
 use super::World;
 use crate::world::world_change::WorldChange;
-use messages::entry::Entry;
-use messages::event::{Event, MemberEvent};
-use messages::kept_reply::KeptReply;
-use messages::outcome::Outcome;
-use messages::refusal::Refused;
-use messages::sends::Sends;
-use node_core::change::NodeChange;
-use node_core::node::Node;
+use messages::{Entry, Event, KeptReply, MemberEvent, Outcome, Refused, Sends};
+use node_core::{Node, NodeChange};
 use std::alloc::{AllocError, Global};
-use token_server::change::ServerChange;
+use token_server::ServerChange;
 
 impl World {
     // Makes the planned step of the node. Gives the entry.

@@ -4,12 +4,12 @@ ghost use Rattle.node_core.specs.rule.Parts.{NodeParts, node_state};
 ghost use Rattle.token_server.specs.rule.Parts.{ServerParts, server_state};
 ghost use Rattle.cluster_core.specs.rule.Parts.{world_state};
 ghost use Rattle.cluster_core.specs.rule.Actors.{HasNode, HasServer};
-ghost use Rattle.cluster_core.specs.code.Copies.{with_node_copy, with_server_copy};
+ghost use Rattle.cluster_core.specs.code.Changes.{with_node_copy, with_server_copy};
 
 use super::World;
-use node_core::node::Node;
+use node_core::Node;
 use std::mem;
-use token_server::server::Server;
+use token_server::Server;
 
 impl World {
     /// Exchanges the world's copy of the node's state and this one, which is equal.

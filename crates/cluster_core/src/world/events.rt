@@ -9,11 +9,8 @@ ghost use Rattle.messages.specs.declared.event.Event.TheVariants.{AtNode, AtServ
 ghost use Rattle.messages.specs.declared.event.MemberEvent.TheVariants.{Declare, Restart};
 
 use super::World;
-use messages::actor::Actor;
-use messages::event::{Event, MemberEvent, NodeInput, ServerInput};
-use messages::shape::Shape;
-use model::limits::MOST_PROCESSES;
-use model::op::{Op, ProcessCall};
+use messages::{Actor, Event, MemberEvent, NodeInput, ServerInput, Shape};
+use model::{MOST_PROCESSES, Op, ProcessCall};
 
 // Whether the number is from 1 to `most`.
 pub(super) fn is_number(most: u16, number: u16) -> bool

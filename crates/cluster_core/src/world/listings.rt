@@ -2,7 +2,7 @@
 //! request for memory was refused.
 ghost use Rattle.std.specs.Prelude.{◌≡◌, ◌++◌, true, IfOk, OnOk, map};
 ghost use Rattle.messages.specs.rule.Messages.{is_within};
-ghost use Rattle.lock_table.specs.rule.Listing.{IsListing};
+ghost use Rattle.lock_table.specs.rule.Tables.{IsListing};
 ghost use Rattle.node_core.specs.rule.Parts.{node_state};
 ghost use Rattle.cluster_core.specs.rule.Parts.{world_state};
 ghost use Rattle.cluster_core.specs.rule.Union.{union};
@@ -13,9 +13,8 @@ use crate::held_lock::HeldLock;
 use crate::node_token_run::NodeTokenRun;
 use intervals::span::Span;
 use lock_table::order::cmp_regions;
-use model::level::Level;
-use model::lock_info::LockInfo;
-use node_core::node::Node;
+use model::{Level, LockInfo};
+use node_core::Node;
 use std::alloc::{AllocError, Global};
 
 // Appends the runs, each with its node, incarnation and file.

@@ -22,16 +22,10 @@ ghost use Rattle.messages.specs.declared.refusal.Refused.{Refused};
 
 use super::World;
 use super::world_change::WorldChange;
-use messages::actor::Actor;
-use messages::event::{Event, MemberEvent, NodeInput, ServerInput};
-use messages::message::Message;
-use messages::refusal::{Refused, StepError};
-use node_core::change::NodeChange;
-use node_core::event::NodeEvent;
-use node_core::node::Node;
+use messages::{Actor, Event, MemberEvent, Message, NodeInput, Refused, ServerInput, StepError};
+use node_core::{Node, NodeChange, NodeEvent};
 use std::alloc::Global;
-use token_server::change::ServerChange;
-use token_server::event::ServerEvent;
+use token_server::{ServerChange, ServerEvent};
 
 impl World {
     // The node with that number.

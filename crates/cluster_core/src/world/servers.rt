@@ -12,14 +12,9 @@ ghost use Rattle.cluster_core.specs.code.Changes.{IsStart, Makes};
 
 use super::World;
 use super::world_change::WorldChange;
-use messages::entry::Entry;
-use messages::event::{Event, MemberEvent};
-use messages::kept_reply::KeptReply;
-use messages::outcome::Outcome;
-use messages::refusal::Refused;
-use messages::sends::Sends;
+use messages::{Entry, Event, KeptReply, MemberEvent, Outcome, Refused, Sends};
 use std::alloc::{AllocError, Global};
-use token_server::server::Server;
+use token_server::Server;
 
 impl World {
     /// Whether the token server of the file works: it was not declared failed, or started again since.

@@ -16,13 +16,10 @@ ghost use Rattle.cluster_core.specs.rule.Actors.{HasNode, HasServer};
 
 use super::events::is_number;
 use super::{JOURNAL_LIMIT, World};
-use messages::entry::Entry;
-use messages::event::{Event, MemberEvent};
-use messages::refusal::Refused;
-use messages::sends::Sends;
-use node_core::node::Node;
+use messages::{Entry, Event, MemberEvent, Refused, Sends};
+use node_core::Node;
 use std::alloc::{AllocError, Global};
-use token_server::server::Server;
+use token_server::Server;
 
 impl World {
     /// Whether the event names nodes, processes and files of the shape, a message that was sent to one of its actors,

@@ -1,9 +1,7 @@
 //! The change that an event makes in a world, as it is planned.
-use messages::sends::Sends;
-use node_core::change::NodeChange;
-use node_core::node::Node;
-use token_server::change::ServerChange;
-use token_server::server::Server;
+use messages::Sends;
+use node_core::{Node, NodeChange};
+use token_server::{Server, ServerChange};
 
 /// The change that an event makes in a world: the step of the one actor that takes it.
 #[derive(Drop)]

@@ -10,7 +10,7 @@ use super::Processes;
 use crate::counts::share;
 use crate::edit::ProcessEdit;
 use crate::rows::{copy_row, refer, reset};
-use model::opened::Opened;
+use model::Opened;
 
 impl Processes {
     // Sets what the descriptor, which is free, refers to.

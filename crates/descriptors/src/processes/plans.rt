@@ -3,20 +3,15 @@ ghost use Rattle.std.specs.Prelude.{◌≡◌, ◌≢◌, ◌<◌, false, None, 
 ghost use Rattle.model.specs.declared.reply.Reply.TheVariants.{Done, Fd};
 ghost use Rattle.model.specs.rule.Limits.{IsNumber, most_processes, most_descriptors};
 ghost use Rattle.model.specs.rule.Descriptors.{lowest_fd, lowest_description, after_spawn, after_fork, after_open, after_dup, after};
-ghost use Rattle.descriptors.specs.code.Rows.{Refuses};
+ghost use Rattle.descriptors.specs.code.Rows.{Refuses, begins, CanBegin};
 ghost use Rattle.descriptors.specs.rule.Rows.{processes};
 ghost use Rattle.descriptors.specs.code.Edits.{edited, Fits, HasPlace};
-ghost use Rattle.descriptors.specs.code.Calls.{begins, CanBegin};
 
 use super::{Processes, last_place};
 use crate::edit::ProcessEdit;
 use crate::error::ProcessError;
 use crate::rows::{grown, is_running};
-use model::access::Access;
-use model::limits::MOST_DESCRIPTORS;
-use model::op::ProcessCall;
-use model::opened::Opened;
-use model::reply::Reply;
+use model::{Access, MOST_DESCRIPTORS, Opened, ProcessCall, Reply};
 use std::alloc::AllocError;
 
 impl Processes {

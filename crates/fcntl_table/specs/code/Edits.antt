@@ -2,7 +2,7 @@
 use Rattle.std.specs.Prelude.{◌≡◌, true}
 use Rattle.model.specs.rule.Locks.{with_lock}
 use Rattle.model.specs.rule.Table.{Table, is_running, descriptor, closed_if, exited}
-use Rattle.lock_table.specs.code.Blocks.{Fits as LocksFit}
+use Rattle.lock_table.specs.code.Rows.{Fits as LocksFit}
 use Rattle.descriptors.specs.code.Edits.{edited as edited_processes}
 use Rattle.fcntl_table.specs.declared.edit.TableEdit.{TableEdit}
 use Rattle.fcntl_table.specs.declared.edit.TableEdit.TheVariants.{Nothing, OfProcess, OfLocks, Closes, Exits}

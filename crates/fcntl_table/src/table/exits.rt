@@ -6,9 +6,7 @@ ghost use Rattle.fcntl_table.specs.rule.Hosts.{process_at};
 ghost use Rattle.fcntl_table.specs.rule.Tables.{table_of};
 
 use super::{FcntlTable, host_of};
-use model::host::Host;
-use model::limits::MOST_PROCESSES;
-use model::process::Process;
+use model::{Host, MOST_PROCESSES, Process};
 
 impl FcntlTable {
     /// Lets all processes of the node's incarnation exit, as where the node fails. If the numbers

@@ -4,7 +4,7 @@ ghost use Rattle.model.specs.rule.Descriptors.{after};
 ghost use Rattle.model.specs.declared.reply.Reply.{Reply};
 ghost use Rattle.model.specs.rule.Table.{around, beside, regions_with, lock_within, after_close, after_exit};
 ghost use Rattle.model.specs.rule.Step.{Is};
-ghost use Rattle.descriptors.specs.code.Calls.{begins, CanBegin};
+ghost use Rattle.descriptors.specs.code.Rows.{begins, CanBegin};
 ghost use Rattle.fcntl_table.specs.declared.edit.TableEdit.TheVariants.{Nothing};
 ghost use Rattle.fcntl_table.specs.rule.Tables.{table_of, Keeps};
 ghost use Rattle.fcntl_table.specs.code.Edits.{edited, Fits};
@@ -12,11 +12,7 @@ ghost use Rattle.fcntl_table.specs.code.Edits.{edited, Fits};
 use super::{FcntlTable, host_of, refused};
 use crate::edit::{Planned, TableEdit};
 use crate::locks::lock_reply;
-use model::lock_target::LockTarget;
-use model::mode::Mode;
-use model::op::ProcessCall;
-use model::process::Process;
-use model::reply::Reply;
+use model::{LockTarget, Mode, Process, ProcessCall, Reply};
 use std::alloc::AllocError;
 
 impl FcntlTable {

@@ -1,17 +1,38 @@
 -- Histories of calls, as texts write them.
-use Rattle.std.specs.Prelude.{◌≡◌, ℕ, ◌≤◌, true, false, List, flat_map, slice_get, length, take, drop, count_by, sum_by, Some, All}
+use Rattle.std.specs.Prelude.{ℕ, ◌+◌, ◌++◌, Bool, nat_eq, if◌then◌else◌, List, [], ◌∷◌, codes, take, ◌≡◌, ◌≤◌, true, false, flat_map, slice_get, length, drop, count_by, sum_by, Some, All}
+use Rattle.history_text.specs.declared.file_calls.FileCalls.{FileCalls}
+use Rattle.std.specs.List.{starts_with}
 use Rattle.texts.specs.rule.LineFeeds.{line_feed}
+use Rattle.history_text.specs.declared.written_history.LineCounts.{LineCounts}
 use Rattle.texts.specs.rule.Reads.{IsWithin, Lacks}
 use Rattle.client_history.specs.declared.act.Act.TheVariants.{Drops}
 use Rattle.client_history.specs.declared.client_call.ClientCall.{ClientCall}
 use Rattle.model.specs.declared.owner.Owner.{Owner}
-use Rattle.history_text.specs.declared.file_calls.FileCalls.{FileCalls}
 use Rattle.history_text.specs.declared.written_history.WrittenHistory.{WrittenHistory}
 use Rattle.history_text.specs.declared.rule.Allowed.{Allowed}
-use Rattle.history_text.specs.rule.Calls.{counted, is_call, with_feed}
-use Rattle.history_text.specs.rule.Files.{calls_in, runs}
-use Rattle.history_text.specs.rule.Owners.{AreDistinct, IsNamed}
-use Rattle.history_text.specs.rule.Times.{IsTimed}
+use Rattle.history_text.specs.rule.Owners.{AreDistinct, IsNamed, IsTimed}
+
+-- a line with its line feed
+abbrev pub with_feed : List ℕ → List ℕ
+with_feed line = line ++ line_feed ∷ []
+
+-- the line is one of a call
+abbrev pub is_call : List ℕ → Bool
+is_call line = starts_with nat_eq line (codes "call ")
+
+-- the number of lines of calls
+abbrev pub counted : LineCounts → ℕ
+counted counts = counts.calls + counts.exits + counts.silent
+
+-- the number of different lines in the list, in which equal ones stand together
+abbrev pub runs : List ℕ → ℕ
+runs [] = 0
+runs (line ∷ []) = 1
+runs (line ∷ (next ∷ lines)) = (if nat_eq line next then 0 else 1) + runs (next ∷ lines)
+
+-- the number of lines of calls of a file that is read to its end
+abbrev pub calls_in : FileCalls → ℕ
+calls_in file = runs (take file.told file.lines.items)
 
 -- a call of an owner with a name, which ends no earlier than it begins
 pub record IsCall (names : List (List ℕ)) (call : ClientCall) : Type 0 where

@@ -1,5 +1,5 @@
--- The owners that stand for names.
-use Rattle.std.specs.Prelude.{◌≡◌, ℕ, ◌+◌, ◌/◌, ◌%◌, List, slice_get, Some}
+-- The owners that stand for names, and the times at which calls begin and end.
+use Rattle.std.specs.Prelude.{◌≡◌, ℕ, ◌+◌, ◌/◌, ◌%◌, List, slice_get, Some, ◌≤◌, Option, IfSome}
 use Rattle.model.specs.rule.Limits.{OwnerFields}
 use Rattle.model.specs.declared.owner.Owner.{Owner}
 use Rattle.model.specs.declared.owner.Kind.TheVariants.{OfProcess}
@@ -19,3 +19,7 @@ AreDistinct names = (i j : ℕ) (name : List ℕ) → slice_get names i ≡ Some
 -- the owner stands for the name, one of these
 abbrev pub IsNamed : List (List ℕ) → Owner → List ℕ → Type 0
 IsNamed names owner name = (k : ℕ) × (slice_get names k ≡ Some name) × (owner ≡ owner_numbered k)
+
+-- the end, if there is one, is no earlier than the begin
+abbrev pub IsTimed : ℕ → Option ℕ → Type 0
+IsTimed begin end = IfSome end (λ time. begin ≤ time)

@@ -15,7 +15,7 @@ use Rattle.messages.specs.declared.event.ServerInput.TheVariants.{Learn}
 use Rattle.messages.specs.declared.message.Message.{Message}
 use Rattle.messages.specs.declared.version.Version.TheVariants.{Second}
 use Rattle.lockscript.specs.rule.Served.{IsDescriptor}
-use Rattle.message_text.specs.rule.Served.{IsServedMessage}
+use Rattle.message_text.specs.rule.Texts.{IsServedMessage}
 use Rattle.journal_text.specs.rule.Served.{IsServedReply}
 
 -- the numbers of an operation fit their types: 8 bits for a descriptor, 64 bits for a start and a length

@@ -1,6 +1,6 @@
 -- Each text is that of one value at most.
 use Rattle.std.specs.Prelude.{◌≡◌, ℕ, List, All, map}
-use Rattle.message_text.specs.code.OneText.{HasOneValue}
+use Rattle.message_text.specs.code.Reports.{HasOneValue}
 use Rattle.lockscript.specs.rule.Texts.{reply_text}
 use Rattle.messages.specs.rule.Entries.{EntryFields}
 use Rattle.messages.specs.rule.Shapes.{IsShape, ShapeFields}
@@ -10,9 +10,8 @@ use Rattle.journal_text.specs.rule.Events.{IsServedEvent, named_text}
 use Rattle.journal_text.specs.rule.Journals.{journal_text}
 use Rattle.journal_text.specs.rule.Lines.{IsServedLine, line_text}
 use Rattle.journal_text.specs.rule.Readings.{IsFirstBad, WritesJournal, body_lines, entry_in}
-use Rattle.message_text.specs.rule.Served.{IsServedMessage}
+use Rattle.message_text.specs.rule.Texts.{IsServedMessage, message_text}
 use Rattle.journal_text.specs.rule.Served.{IsServedReply}
-use Rattle.message_text.specs.rule.Texts.{message_text}
 
 -- a journal each of whose lines has its numbers within their limits
 pub record IsServedJournal (s : ShapeFields) (es : List EntryFields) : Type 0 where

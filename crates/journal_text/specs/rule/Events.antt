@@ -2,8 +2,7 @@
 use Rattle.std.specs.Prelude.{◌≡◌, ℕ, true, List, Option, Some, None}
 use Rattle.model.specs.declared.call.CallId.{CallId}
 use Rattle.model.specs.rule.Limits.{IsCall, IsNumber, most_processes}
-use Rattle.messages.specs.rule.Epochs.{IsEpoch}
-use Rattle.messages.specs.rule.Versions.{may_rebuild}
+use Rattle.messages.specs.rule.Shapes.{IsEpoch, may_rebuild}
 use Rattle.messages.specs.declared.version.Version.{Version}
 use Rattle.messages.specs.declared.event.Event.{Event}
 use Rattle.messages.specs.declared.event.Event.TheVariants.{AtNode, AtServer, Member}
@@ -14,7 +13,7 @@ use Rattle.messages.specs.declared.event.MemberEvent.TheVariants as change
 use Rattle.lockscript.specs.rule.Served.{IsServedOp}
 use Rattle.journal_text.specs.declared.named_event.NamedEvent.{NamedEvent}
 use Rattle.journal_text.specs.declared.named_event.NamedEvent.TheVariants.{Call, Deliver, Interrupt, Retry, Resend, Declare, Restart, Learn, FailServer, StartServer}
-use Rattle.message_text.specs.rule.Served.{IsFile, IsHolder, IsServedMessage}
+use Rattle.message_text.specs.rule.Texts.{IsFile, IsHolder, IsServedMessage}
 use Rattle.journal_text.specs.rule.Texts.{event_text}
 
 abbrev pub event_of : NamedEvent → Event

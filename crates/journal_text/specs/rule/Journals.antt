@@ -8,10 +8,9 @@ use Rattle.messages.specs.rule.Shapes.{ShapeFields}
 use Rattle.messages.specs.declared.version.Version.{Version}
 use Rattle.messages.specs.declared.version.Version.TheVariants.{First, Second}
 use Rattle.lockscript.specs.rule.Scripts.{counts_text}
-use Rattle.message_text.specs.rule.Names.{call_text}
+use Rattle.message_text.specs.rule.Texts.{call_text, message_text}
 use Rattle.lockscript.specs.rule.Texts.{reply_text}
 use Rattle.journal_text.specs.rule.Texts.{event_text}
-use Rattle.message_text.specs.rule.Texts.{message_text}
 
 -- the line of the answer, if there is one
 abbrev pub reply_line : Option (CallId × Reply) → List ℕ

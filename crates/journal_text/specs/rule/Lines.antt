@@ -3,14 +3,12 @@ use Rattle.std.specs.Prelude.{ℕ, ◌≤◌, List, ◌++◌, codes, decimal}
 use Rattle.model.specs.rule.Limits.{IsCall, IsNumber}
 use Rattle.messages.specs.declared.version.Version.{Version}
 use Rattle.texts.specs.rule.Reads.{pair_text}
-use Rattle.message_text.specs.rule.Names.{call_text}
+use Rattle.message_text.specs.rule.Texts.{call_text, IsServedMessage, message_text}
 use Rattle.lockscript.specs.rule.Texts.{reply_text}
 use Rattle.journal_text.specs.declared.lines.JournalLine.{JournalLine}
 use Rattle.journal_text.specs.declared.lines.JournalLine.TheVariants.{Entry, Answer, Send, End}
 use Rattle.journal_text.specs.rule.Events.{IsServedEvent, named_text}
-use Rattle.message_text.specs.rule.Served.{IsServedMessage}
 use Rattle.journal_text.specs.rule.Served.{IsServedReply}
-use Rattle.message_text.specs.rule.Texts.{message_text}
 
 -- the position of an entry is in range
 abbrev pub IsPosition : ℕ → Type 0

@@ -3,7 +3,7 @@ use Rattle.std.specs.Prelude.{⊤}
 use Rattle.model.specs.declared.reply.Reply.{Reply}
 use Rattle.model.specs.declared.reply.Reply.TheVariants.{Fd, Again, Blocked}
 use Rattle.lockscript.specs.rule.Served.{IsDescriptor}
-use Rattle.message_text.specs.rule.Served.{IsServedLock}
+use Rattle.message_text.specs.rule.Texts.{IsServedLock}
 
 abbrev pub IsServedReply : Reply → Type 0
 IsServedReply (Fd fd) = IsDescriptor fd

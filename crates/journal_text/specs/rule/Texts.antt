@@ -11,8 +11,7 @@ use Rattle.messages.specs.declared.event.MemberEvent.{MemberEvent}
 use Rattle.messages.specs.declared.event.MemberEvent.TheVariants.{Declare, Restart, FailServer, StartServer}
 use Rattle.messages.specs.declared.version.Version.{Version}
 use Rattle.texts.specs.rule.Reads.{pair_text}
-use Rattle.message_text.specs.rule.Names.{call_text, host_text, server_text}
-use Rattle.message_text.specs.rule.Texts.{message_text}
+use Rattle.message_text.specs.rule.Texts.{call_text, host_text, server_text, message_text}
 use Rattle.lockscript.specs.rule.Texts.{op_text}
 
 -- what comes to a node, with the incarnation and the call that its entry names; a call without a name, which no entry has, has the empty text

@@ -1,7 +1,7 @@
 -- A script as far as it was played, as the code stores it, and what that stands for.
 use Rattle.std.specs.Prelude.{ℕ, Option, option_map}
-use Rattle.player.specs.code.Parts.{PlayerParts, progress}
-use Rattle.talks.specs.Talks.{Saying}
+use Rattle.player.specs.code.Rounds.{PlayerParts, progress}
+use Rattle.seat_text.specs.rule.Talks.{Saying}
 use Rattle.line_play.specs.rule.Answers.{Says, Stage}
 
 pub record PlayedParts : Type 0 where

@@ -1,8 +1,8 @@
 -- Playing the lines that are read.
 use Rattle.std.specs.Prelude.{ℕ, List, Option, Some}
-use Rattle.talks.specs.Talks.{Turned}
-use Rattle.talks.specs.declared.talk.TalkEnd.{TalkEnd}
-use Rattle.talks.specs.declared.talk.TalkEnd.TheVariants.{NoMemory}
+use Rattle.seat_text.specs.rule.Talks.{Turned}
+use Rattle.seat_text.specs.declared.talk.TalkEnd.{TalkEnd}
+use Rattle.seat_text.specs.declared.talk.TalkEnd.TheVariants.{NoMemory}
 use Rattle.line_play.specs.declared.answering.PlayEnd.{PlayEnd}
 use Rattle.line_play.specs.declared.answering.PlayEnd.TheVariants.{Line, Talk}
 use Rattle.line_play.specs.rule.Answers.{Says, Stage, first_stage}

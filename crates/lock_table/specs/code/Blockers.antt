@@ -1,4 +1,4 @@
--- Locks that block an owner, and locks in the way of a mode, where one owner may be left out.
+-- Locks that block an owner, and locks in the way of a mode, as a search goes over rows.
 use Rattle.std.specs.Prelude.{◌≡◌, ◌≢◌, ℕ, ◌≤◌, false, Option, None, Some, MatchOption, IsSome}
 use Rattle.intervals.specs.rule.Bytes.{Range}
 use Rattle.model.specs.rule.Locks.{FileLocks, bars, IsRegion, IsLowestBlocker, IsLowestInWay}
@@ -6,7 +6,10 @@ use Rattle.model.specs.declared.mode.Mode.{Mode}
 use Rattle.model.specs.declared.owner.Owner.{Owner}
 use Rattle.model.specs.declared.lock_info.LockInfo.{LockInfo}
 use Rattle.lock_table.specs.declared.owner_set.OwnerSet.{OwnerSet}
-use Rattle.lock_table.specs.code.Pages.{Has}
+use Rattle.lock_table.specs.code.Rows.{Has}
+use Rattle.std.specs.Ordering.{nat_cmp, ordering_then}
+use Rattle.std.specs.declared.cmp.Ordering.{Ordering}
+use Rattle.model.specs.rule.Owners.{owner_cmp}
 
 -- the owner counts in a search that leaves out at most one owner
 abbrev pub IsAsked : Option Owner → Owner → Type 0
@@ -38,3 +41,7 @@ LowestBlockerIsOne =
     → IsLowestBlocker h owner s mode a
     → IsLowestBlocker h owner s mode b
     → a ≡ b
+
+-- how lock a stands to lock b: by first byte, then by owner
+abbrev pub lock_cmp : LockInfo → LockInfo → Ordering
+lock_cmp a b = ordering_then (nat_cmp a.span.lo b.span.lo) (owner_cmp a.owner b.owner)

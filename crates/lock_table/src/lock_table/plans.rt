@@ -4,9 +4,8 @@ ghost use Rattle.intervals.specs.rule.Bytes.{put};
 ghost use Rattle.model.specs.rule.Locks.{with_lock, regions};
 ghost use Rattle.model.specs.declared.owner.Owner.{Owner as SomeOwner};
 ghost use Rattle.lock_table.specs.declared.error.LockError.TheVariants.{NoLocks};
-ghost use Rattle.lock_table.specs.code.Rows.{bytes_in, runs_in};
+ghost use Rattle.lock_table.specs.code.Rows.{bytes_in, runs_in, Fits, HasRoom, IsPlaced, IsRowOf, RunsFit};
 ghost use Rattle.lock_table.specs.rule.Tables.{held};
-ghost use Rattle.lock_table.specs.code.Blocks.{Fits, HasRoom, IsPlaced, IsRowOf, RunsFit};
 
 use super::{LEAST_ROWS, LockEdit, LockTable, ROWS_OF_BLOCK};
 use crate::blocks::{RowRoom, row_room};
@@ -16,8 +15,7 @@ use crate::page_index::PageIndex;
 use crate::place::{Place, position, row_at};
 use intervals::span::Span;
 use intervals::span_edit::SpanEdit;
-use model::mode::Mode;
-use model::owner::Owner;
+use model::{Mode, Owner};
 use std::alloc::AllocError;
 
 impl LockTable {

@@ -4,10 +4,8 @@ ghost use Rattle.intervals.specs.rule.Bytes.{IsLargest};
 ghost use Rattle.model.specs.rule.Locks.{IsFree, IsRegion, IsLowestBlocker, IsClear, IsLowestInWay};
 ghost use Rattle.model.specs.declared.lock_info.LockInfo.{LockInfo as SomeLock};
 ghost use Rattle.lock_table.specs.code.Rows.{AreRows};
-ghost use Rattle.lock_table.specs.rule.Tables.{held, rows_held};
+ghost use Rattle.lock_table.specs.rule.Tables.{held, rows_held, HasInWay, IsListing, ListsRegions};
 ghost use Rattle.lock_table.specs.code.Blockers.{AreNear, IsLowestBut};
-ghost use Rattle.lock_table.specs.rule.Listing.{HasInWay};
-ghost use Rattle.lock_table.specs.rule.Listing.{IsListing, ListsRegions};
 
 use super::LockTable;
 use crate::order::{cmp_regions, keep_lowest};
@@ -15,9 +13,7 @@ use crate::owner_locks::OwnerLocks;
 use crate::owner_set::OwnerSet;
 use crate::place::{blocks_of, next_near, position, row_at, rows_of};
 use intervals::span::Span;
-use model::lock_info::LockInfo;
-use model::mode::Mode;
-use model::owner::Owner;
+use model::{LockInfo, Mode, Owner};
 use std::alloc::AllocError;
 
 // The lowest region of the file in the way of the mode in the span. Rows of owners that the set

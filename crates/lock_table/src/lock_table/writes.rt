@@ -2,7 +2,7 @@
 ghost use Rattle.std.specs.Prelude.{◌≡◌};
 ghost use Rattle.model.specs.rule.Locks.{with_lock};
 ghost use Rattle.lock_table.specs.rule.Tables.{held};
-ghost use Rattle.lock_table.specs.code.Blocks.{Fits, HasRoom, IsGapIn, IsRowIn, RunsFit};
+ghost use Rattle.lock_table.specs.code.Rows.{Fits, HasRoom, IsGapIn, IsRowIn, RunsFit};
 
 use super::{LockEdit, LockTable};
 use crate::blocks::{RowRoom, insert_row, remove_row};
@@ -11,8 +11,7 @@ use crate::owner_spans::OwnerSpans;
 use crate::page_index::PageIndex;
 use crate::place::Place;
 use intervals::span_edit::SpanEdit;
-use model::mode::Mode;
-use model::owner::Owner;
+use model::{Mode, Owner};
 
 impl LockTable {
     // Begins an index in the given memory, or else renews an index that is due for it. Takes no

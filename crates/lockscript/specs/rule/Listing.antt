@@ -10,7 +10,7 @@ use Rattle.cluster_core.specs.declared.item.Item.{Item}
 use Rattle.cluster_core.specs.declared.item.Item.TheVariants.{Answered, Gone}
 use Rattle.lockscript.specs.declared.refused_line.RefusedLine.{RefusedLine}
 use Rattle.lockscript.specs.rule.Layout.{left_in, right_in}
-use Rattle.message_text.specs.rule.Names.{call_text, host_text, owner_text}
+use Rattle.message_text.specs.rule.Texts.{call_text, host_text, owner_text}
 use Rattle.lockscript.specs.rule.Texts.{op_text, reply_text}
 use Rattle.texts.specs.rule.Words.{level_text, mode_text}
 

@@ -9,7 +9,7 @@ use Rattle.model.specs.declared.op.ProcessCall.TheVariants.{Spawn, Fork, Open, D
 use Rattle.model.specs.declared.op.LockCommand.{LockCommand}
 use Rattle.model.specs.declared.op.LockCommand.TheVariants.{Set, Wait, Query}
 use Rattle.texts.specs.rule.Reads.{pair_text}
-use Rattle.message_text.specs.rule.Names.{lock_text}
+use Rattle.message_text.specs.rule.Texts.{lock_text}
 use Rattle.texts.specs.rule.Words.{access_text, kind_text, mode_text}
 use Rattle.model.specs.declared.reply.Reply.{Reply}
 use Rattle.model.specs.declared.reply.Reply.TheVariants.{Done, Fd, Again, Free, Blocked, Interrupted, NoProcess, Exists, BadFd, TooManyFiles, NoLocks, Invalid, Overflow}

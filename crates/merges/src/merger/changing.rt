@@ -4,15 +4,13 @@ ghost use Rattle.messages.specs.declared.actor.Actor.{Actor};
 ghost use Rattle.messages.specs.declared.event.Event.TheVariants.{Member};
 ghost use Rattle.cluster_core.specs.rule.Parts.{world_state};
 ghost use Rattle.merges.specs.rule.Merges.{ends};
-ghost use Rattle.merges.specs.code.Merging.{current, is_there, next_of};
-ghost use Rattle.merges.specs.code.Mergers.{IsMerger, NoChangeComes, Fails, Longer, PutsOn, fields_of, merging_of};
+ghost use Rattle.merges.specs.code.Merging.{current, is_there, next_of, IsMerger, NoChangeComes, Fails, Longer, PutsOn, fields_of, merging_of};
 
 use super::Merger;
-use crate::log::Log;
-use crate::merge_error::MergeError;
 use crate::steps::{ends, is_current, took};
-use cluster_core::world::{JOURNAL_LIMIT, World};
-use messages::event::{Event, MemberEvent};
+use crate::{Log, MergeError};
+use cluster_core::{JOURNAL_LIMIT, World};
+use messages::{Event, MemberEvent};
 use std::alloc::Global;
 
 // Whether the log has entries, and is of the incarnation of an actor that the event declares failed.

@@ -1,11 +1,9 @@
 //! Putting what may be put of the logs that may go on, however many others there are.
 ghost use Rattle.std.specs.Prelude.{◌≡◌, true, length, IfOk, IfErr, OnOk};
-ghost use Rattle.merges.specs.code.Mergers.{IsMerger, Covers, EndsFrom, Fails, Longer, PutsOn, fields_of};
+ghost use Rattle.merges.specs.code.Merging.{IsMerger, Covers, EndsFrom, Fails, Longer, PutsOn, fields_of};
 
 use super::Merger;
-use crate::ends::Ends;
-use crate::merge_error::MergeError;
-use crate::queue::Queue;
+use crate::{Ends, MergeError, Queue};
 use std::alloc::Global;
 
 impl Merger {

@@ -1,12 +1,10 @@
 //! Putting whatever may be put.
 ghost use Rattle.std.specs.Prelude.{◌≡◌, ◌↔◌, true, false, length, IsTrue, IfOk, IfErr, OnOk};
-ghost use Rattle.merges.specs.code.Merging.{IsDone};
-ghost use Rattle.merges.specs.code.Mergers.{IsMerger, Fails, IsExact, IsStuck, Longer, PutsOn, fields_of, merging_of};
+ghost use Rattle.merges.specs.code.Merging.{IsDone, IsMerger, Fails, IsExact, IsStuck, Longer, PutsOn, fields_of, merging_of};
 
 use super::Merger;
-use crate::merge_error::MergeError;
-use crate::stuck::Stuck;
-use cluster_core::run::Run;
+use crate::{MergeError, Stuck};
+use cluster_core::Run;
 use std::alloc::Global;
 
 impl Merger {

@@ -1,8 +1,6 @@
 //! Telling what can't go on.
 use super::Merger;
-use crate::log::Log;
-use crate::steps::{is_current, takes};
-use crate::stuck::{Hindrance, Stuck};
+use crate::{Hindrance, Log, Stuck, is_current, takes};
 use std::alloc::AllocError;
 
 impl Merger {

@@ -1,8 +1,16 @@
--- The texts of messages.
-use Rattle.std.specs.Prelude.{Bool, false, true, ℕ, ◌-◌, List, ◌∷◌, ◌++◌, codes, decimal, flat_map, length}
-use Rattle.intervals.specs.rule.Bytes.{Range}
-use Rattle.messages.specs.rule.Epochs.{begin_of, epoch_of}
-use Rattle.messages.specs.rule.Wants.{Wants}
+-- The texts of names and messages, and the limits of what messages can hold.
+use Rattle.std.specs.Prelude.{ℕ, List, ◌++◌, codes, decimal, Bool, false, true, ◌-◌, ◌∷◌, flat_map, length, ◌≡◌, ◌≤◌, All}
+use Rattle.model.specs.declared.call.CallId.{CallId}
+use Rattle.model.specs.declared.host.Host.{Host}
+use Rattle.model.specs.declared.lock_info.LockInfo.{LockInfo}
+use Rattle.model.specs.declared.owner.Kind.{Kind}
+use Rattle.model.specs.declared.owner.Kind.TheVariants.{OfProcess, OfDescription}
+use Rattle.model.specs.declared.owner.Owner.{Owner}
+use Rattle.texts.specs.rule.Reads.{joined_text, pair_text}
+use Rattle.texts.specs.rule.Words.{mode_text, level_text}
+use Rattle.intervals.specs.rule.Bytes.{Range, greatest}
+use Rattle.messages.specs.rule.Shapes.{begin_of, epoch_of, IsCommand, IsRebuilt, most_files, may_rebuild}
+use Rattle.messages.specs.rule.TokenRuns.{Wants, are_longest}
 use Rattle.messages.specs.declared.message.Message.{Message}
 use Rattle.messages.specs.declared.message.Message.TheVariants.{Request, Grant, Revoke, Taken, Released, Conflict, Deny, Freed, Hello, Report}
 use Rattle.messages.specs.declared.message.Blocking.{Blocking}
@@ -11,9 +19,36 @@ use Rattle.messages.specs.declared.token_run.TokenRun.{TokenRun}
 use Rattle.messages.specs.declared.version.Version.{Version}
 use Rattle.messages.specs.declared.version.Version.TheVariants.{First, Second}
 use Rattle.texts.specs.rule.Layout.{space}
-use Rattle.texts.specs.rule.Reads.{pair_text}
-use Rattle.texts.specs.rule.Words.{level_text, mode_text}
-use Rattle.message_text.specs.rule.Names.{call_text, holder_text, lock_text}
+use Rattle.model.specs.rule.Limits.{IsCall, IsHost, IsNumber, IsOwner}
+use Rattle.messages.specs.rule.Messages.{greatest_number}
+
+-- the name of a node in an incarnation
+abbrev pub host_text : ℕ → ℕ → List ℕ
+host_text node incarnation = decimal node ++ codes "." ++ decimal incarnation
+
+abbrev pub call_text : CallId → List ℕ
+call_text c = host_text c.node c.incarnation ++ codes "." ++ decimal c.number
+
+abbrev pub owner_letter : Kind → List ℕ
+owner_letter OfProcess = codes "p"
+owner_letter OfDescription = codes "d"
+
+abbrev pub owner_text : Owner → List ℕ
+owner_text o = owner_letter o.kind ++ decimal o.number ++ codes "@" ++ host_text o.node o.incarnation
+
+abbrev pub lock_text : LockInfo → List ℕ
+lock_text l = mode_text l.mode ++ codes " " ++ decimal l.span.lo ++ codes " " ++ decimal l.span.hi ++ codes " " ++ owner_text l.owner
+
+abbrev pub holder_text : Host → List ℕ
+holder_text h = host_text h.node h.incarnation
+
+-- the byte `.`
+abbrev pub dot : ℕ
+dot = 46
+
+-- the name of a file's server in an epoch
+abbrev pub server_text : ℕ × ℕ → List ℕ
+server_text = joined_text dot decimal decimal
 
 abbrev pub blocking_text : Blocking → List ℕ
 blocking_text No = codes "now"
@@ -73,3 +108,44 @@ is_about_revoke (Released file number holder call span) = true
 is_about_revoke (Conflict file number holder call lock) = true
 is_about_revoke (Deny file call holder number lock) = true
 is_about_revoke message = false
+
+abbrev pub IsFile : ℕ → Type 0
+IsFile = IsNumber most_files
+
+-- the number of a call, or of a command within its epoch, is in range
+abbrev pub IsCounted : ℕ → Type 0
+IsCounted = IsNumber greatest_number
+
+-- the number of a command is in range; in version 1 it is of the first epoch
+abbrev pub IsCommandNumber : Version → ℕ → Type 0
+IsCommandNumber First = IsCounted
+IsCommandNumber Second = IsCommand
+
+abbrev pub IsHolder : Host → Type 0
+IsHolder h = IsHost h.node h.incarnation
+
+abbrev pub IsServedSpan : Range → Type 0
+IsServedSpan s = (s.lo ≤ s.hi) × (s.hi ≤ greatest)
+
+abbrev pub AreServedWants : Wants → Type 0
+AreServedWants w = (IsServedSpan w.required × IsServedSpan w.desired) × (w.desired.lo ≤ w.required.lo) × (w.required.hi ≤ w.desired.hi)
+
+abbrev pub IsServedLock : LockInfo → Type 0
+IsServedLock l = IsServedSpan l.span × IsOwner l.owner
+
+-- the runs are the longest runs of a token, within the bytes of a file
+abbrev pub AreServedRuns : List TokenRun → Type 0
+AreServedRuns runs = All (λ r. IsServedSpan r.span) runs × (are_longest runs ≡ true)
+
+-- a message is within its limits; a hello and a report are written only in a version in which servers can be rebuilt
+abbrev pub IsServedMessage : Version → Message → Type 0
+IsServedMessage version (Request file call blocking mode wanted) = IsFile file × IsCall call × AreServedWants wanted
+IsServedMessage version (Grant file number call mode span) = IsFile file × IsCommandNumber version number × IsCall call × IsServedSpan span
+IsServedMessage version (Revoke file number holder call mode wanted) = IsFile file × IsCommandNumber version number × IsHolder holder × IsCall call × AreServedWants wanted
+IsServedMessage version (Taken file number call) = IsFile file × IsCommandNumber version number × IsCall call
+IsServedMessage version (Released file number holder call span) = IsFile file × IsCommandNumber version number × IsHolder holder × IsCall call × IsServedSpan span
+IsServedMessage version (Conflict file number holder call lock) = IsFile file × IsCommandNumber version number × IsHolder holder × IsCall call × IsServedLock lock
+IsServedMessage version (Deny file call holder number lock) = IsFile file × IsCall call × IsHolder holder × IsCommandNumber version number × IsServedLock lock
+IsServedMessage version (Freed file holder) = IsFile file × IsHolder holder
+IsServedMessage version (Hello file number holder) = (may_rebuild version ≡ true) × IsFile file × IsRebuilt number × IsHolder holder
+IsServedMessage version (Report file number holder runs) = (may_rebuild version ≡ true) × IsFile file × IsRebuilt number × IsHolder holder × AreServedRuns runs

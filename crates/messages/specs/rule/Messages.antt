@@ -1,12 +1,12 @@
--- The addressee and the node of a message, and the equality of messages.
-use Rattle.std.specs.Prelude.{◌≡◌, ℕ, Bool, true, false, ◌&&◌, ◌==◌, nat_le, ◌↔◌, IsTrue, List, None}
+-- Messages: their addressees, their equality, and the token that a node reports.
+use Rattle.std.specs.Prelude.{◌≡◌, ℕ, Bool, true, false, ◌&&◌, ◌==◌, nat_le, ◌↔◌, IsTrue, List, None, zero, suc, ◌+◌, if◌then◌else◌, [], ◌∷◌, Option, Some}
 use Rattle.std.specs.List.{list_any}
 use Rattle.model.specs.rule.Owners.{same_mode, same_owner, host_of_call}
 pub use Rattle.model.specs.rule.Owners.{same_host}
 use Rattle.model.specs.declared.call.CallId.{CallId}
 use Rattle.model.specs.declared.host.Host.{Host}
 use Rattle.model.specs.declared.lock_info.LockInfo.{LockInfo}
-use Rattle.messages.specs.rule.Wants.{Wants}
+use Rattle.messages.specs.rule.TokenRuns.{Wants, same_level}
 use Rattle.messages.specs.declared.actor.Actor.{Actor}
 use Rattle.messages.specs.declared.actor.Actor.TheVariants.{Node as ANode, Server as AServer}
 use Rattle.messages.specs.declared.message.Blocking.{Blocking}
@@ -15,6 +15,9 @@ use Rattle.messages.specs.declared.message.Message.{Message}
 use Rattle.messages.specs.declared.message.Message.TheVariants.{Request, Grant, Revoke, Taken, Released, Conflict, Deny, Freed, Hello, Report}
 pub use Rattle.messages.specs.rule.TokenRuns.{same_range, same_runs}
 use Rattle.messages.specs.declared.outcome.Outcome.{Outcome}
+use Rattle.intervals.specs.rule.Bytes.{greatest, is_in}
+use Rattle.model.specs.declared.level.Level.{Level}
+use Rattle.messages.specs.declared.token_run.TokenRun.{TokenRun}
 
 -- the actor that a message is for
 abbrev pub addressee : Message → Actor
@@ -106,3 +109,25 @@ is_among messages m = list_any (same_message m) messages
 -- `same_message` holds exactly of two equal messages
 abbrev pub SameMessageIsEquality : Type 0
 SameMessageIsEquality = (a b : Message) → IsTrue (same_message a b) ↔ (a ≡ b)
+
+-- the runs with one more byte, b, in front of them, which has the given level or none
+abbrev pub joined : ℕ → Option Level → List TokenRun → List TokenRun
+joined b None runs = runs
+joined b (Some level) [] = record { span = record { lo = b; hi = b }; level = level } ∷ []
+joined b (Some level) (r ∷ rest) =
+    if (r.span.lo == b + 1) && same_level r.level level then record { span = record { lo = b; hi = r.span.hi }; level = level } ∷ rest
+    else record { span = record { lo = b; hi = b }; level = level } ∷ (r ∷ rest)
+
+-- the longest runs of the n bytes from b; never unfolded, since n is the number of all bytes
+unfoldable pub runs_from : (ℕ → Option Level) → ℕ → ℕ → List TokenRun
+runs_from t b zero = []
+runs_from t b (suc n) = joined b (t b) (runs_from t (b + 1) n)
+
+-- the longest runs of a token, in ascending order
+abbrev pub runs_of : (ℕ → Option Level) → List TokenRun
+runs_of t = runs_from t 0 (greatest + 1)
+
+-- the token that a list of runs describes
+abbrev pub reported : List TokenRun → ℕ → Option Level
+reported [] b = None
+reported (r ∷ rest) b = if is_in r.span b then Some r.level else reported rest b

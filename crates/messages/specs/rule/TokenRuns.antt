@@ -1,4 +1,4 @@
--- The longest runs of a token as a list, and the equality of such lists.
+-- The longest runs of a token as a list, and the two ranges of a token request.
 use Rattle.std.specs.Prelude.{◌+◌, Bool, true, false, not, ◌&&◌, ◌==◌, nat_lt, List, [], ◌∷◌}
 use Rattle.intervals.specs.rule.Bytes.{Range}
 use Rattle.model.specs.declared.level.Level.{Level}
@@ -38,3 +38,7 @@ are_longest (a ∷ rest) = go_on_after a rest && are_longest rest
 -- the run of a span and its level
 abbrev pub run_of : Range × Level → TokenRun
 run_of r = record { span = r.0; level = r.1 }
+
+pub record Wants : Type 0 where
+  pub required : Range
+  pub desired : Range

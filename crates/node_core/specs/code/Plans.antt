@@ -1,5 +1,8 @@
--- What a planned step changes of a node.
-use Rattle.std.specs.Prelude.{◌≡◌, ℕ, ◌+◌, ◌-◌, ◌<◌, ◌==◌, Bool, true, false, not, if◌then◌else◌, List, [], ◌∷◌, ◌++◌, All, filter, length, Option, Some, None, Box}
+-- What a planned step changes of a node, the rows of its files, and what hints say of open calls.
+use Rattle.std.specs.Prelude.{ℕ, zero, suc, List, [], ◌∷◌, false, None, ◌≡◌, ◌≤◌, ◌%◌, true, get_or, ◌+◌, ◌-◌, ◌<◌, ◌==◌, Bool, not, if◌then◌else◌, ◌++◌, All, filter, length, Option, Some, Box}
+use Rattle.node_core.specs.declared.file_row.FileRow.{FileRow}
+use Rattle.node_core.specs.declared.hints.Hints.{Hints}
+use Rattle.node_core.specs.declared.open_call.OpenCall.{OpenCall}
 use Rattle.std.specs.Global.{Global}
 use Rattle.std.specs.List.{slice_get}
 use Rattle.std.specs.Vec.{vec_capacity}
@@ -9,7 +12,7 @@ use Rattle.model.specs.rule.Descriptors.{Processes}
 use Rattle.model.specs.rule.Limits.{IsNumber, most_processes}
 use Rattle.model.specs.rule.Locks.{with_lock}
 use Rattle.model.specs.rule.Table.{Table, descriptor, with_processes, closed_if, exited}
-use Rattle.lock_table.specs.code.Blocks.{Fits as LocksFit}
+use Rattle.lock_table.specs.code.Rows.{Fits as LocksFit}
 use Rattle.lock_table.specs.rule.Tables.{TableParts}
 use Rattle.token_set.specs.code.Edits.{edited as token_edited}
 use Rattle.messages.specs.rule.Messages.{greatest_number}
@@ -23,8 +26,6 @@ use Rattle.node_core.specs.declared.node_edit.NodeEdit.{NodeEdit}
 use Rattle.node_core.specs.declared.node_edit.NodeTableEdit.{NodeTableEdit}
 use Rattle.node_core.specs.declared.node_edit.NodeTableEdit.TheVariants.{Nothing, OfProcess, OfLocks, Closes, Exits}
 use Rattle.node_core.specs.declared.file_row.FileEdit.{FileEdit}
-use Rattle.node_core.specs.declared.file_row.FileRow.{FileRow}
-use Rattle.node_core.specs.declared.open_call.OpenCall.{OpenCall}
 use Rattle.node_core.specs.declared.open_calls.CallsEdit.{CallsEdit}
 use Rattle.node_core.specs.declared.open_calls.CallsEdit.TheVariants.{Same, Put, Gone, Left}
 use Rattle.descriptors.specs.rule.Rows.{processes}
@@ -32,6 +33,21 @@ use Rattle.node_core.specs.rule.State.{FileState, NodeState, Effect, first_file,
 use Rattle.node_core.specs.rule.Answers.{answer_of}
 use Rattle.node_core.specs.rule.Anchors.{IsAnchored}
 use Rattle.node_core.specs.rule.Parts.{NodeParts, node_state, IsCallOf}
+
+-- the row of a file that the node knows nothing of
+abbrev pub first_row : FileRow
+first_row = record { token = []; last = 0; answer = None; owes_freed = false }
+
+-- the rows of so many files: these, and then those that nothing is known of
+abbrev pub rows_of : ℕ → List FileRow → List FileRow
+rows_of zero rows = []
+rows_of (suc n) [] = first_row ∷ rows_of n []
+rows_of (suc n) (r ∷ rows) = r ∷ rows_of n rows
+
+-- the hints allow the call: its number is at most the greatest, and its process has its flag set
+pub record IsHinted (h : Hints) (c : OpenCall) : Type 0 where
+  pub number : c.number ≤ h.greatest
+  pub caller : get_or h.callers (c.pid % 256) false ≡ true
 
 -- the number of calls that the node took, after one more call or after none
 abbrev pub calls_after : ℕ → Bool → ℕ

@@ -5,7 +5,7 @@ use Rattle.model.specs.declared.opened.Opened.{Opened}
 use Rattle.model.specs.rule.Limits.{IsNumber, most_processes}
 use Rattle.model.specs.rule.Table.{Table, owner_of}
 use Rattle.model.specs.rule.Anchors.{IsOwn}
-use Rattle.fcntl_table.specs.rule.Targets.{IsSpan}
+use Rattle.fcntl_table.specs.rule.Tables.{IsSpan}
 use Rattle.node_core.specs.declared.open_call.OpenCall.{OpenCall}
 use Rattle.node_core.specs.rule.State.{NodeState}
 

@@ -5,23 +5,21 @@ use Rattle.model.specs.declared.mode.Mode.{Mode}
 use Rattle.model.specs.declared.call.CallId.{CallId}
 use Rattle.model.specs.declared.host.Host.{Host}
 use Rattle.model.specs.declared.lock_info.LockInfo.{LockInfo}
-use Rattle.token_set.specs.rule.Tokens.{Token, raised}
+use Rattle.token_set.specs.rule.Tokens.{Token, raised, gave_up, after_giving_up}
 use Rattle.token_set.specs.declared.gave_up.GaveUp.{GaveUp}
 use Rattle.token_set.specs.declared.gave_up.GaveUp.TheVariants.{Released, Conflict}
-use Rattle.token_set.specs.rule.Releases.{gave_up, after_giving_up}
 use Rattle.node_core.specs.declared.open_call.OpenCall.{OpenCall}
 use Rattle.messages.specs.declared.refusal.StepError.{StepError}
 use Rattle.messages.specs.declared.refusal.StepError.TheVariants.{Stranger}
 use Rattle.messages.specs.declared.message.Message.{Message}
 use Rattle.messages.specs.declared.message.Message.TheVariants as message
 use Rattle.messages.specs.declared.message.Message.TheVariants.{Grant, Revoke, Taken, Deny, Hello, Report}
-use Rattle.messages.specs.rule.Wants.{Wants}
+use Rattle.messages.specs.rule.TokenRuns.{Wants}
 use Rattle.messages.specs.declared.outcome.Outcome.{Outcome}
 use Rattle.messages.specs.declared.actor.Actor.{Actor}
 use Rattle.messages.specs.declared.actor.Actor.TheVariants.{Node as ANode, Server as AServer}
-use Rattle.messages.specs.rule.Epochs.{begin_of}
-use Rattle.messages.specs.rule.Messages.{addressee, host_of, file_of, is_within}
-use Rattle.messages.specs.rule.Reports.{runs_of}
+use Rattle.messages.specs.rule.Shapes.{begin_of}
+use Rattle.messages.specs.rule.Messages.{addressee, host_of, file_of, is_within, runs_of}
 use Rattle.node_core.specs.rule.State.{FileState, NodeState, Effect, with_file, quiet, sent, host, outcome, open_call}
 use Rattle.node_core.specs.rule.Try.{refusal_of, answered_if, tried_if}
 

@@ -10,10 +10,9 @@ use Rattle.model.specs.declared.reply.Reply.TheVariants.{Done}
 use Rattle.model.specs.rule.Limits.{IsNumber, most_processes}
 use Rattle.model.specs.rule.Locks.{IsFree, IsOfNode, IsClear}
 use Rattle.model.specs.rule.Table.{LockTarget, call_target, regions_with}
-use Rattle.token_set.specs.rule.Tokens.{covers, conflicts}
-use Rattle.token_set.specs.rule.Releases.{IsRevocable}
+use Rattle.token_set.specs.rule.Tokens.{covers, conflicts, IsRevocable}
 use Rattle.messages.specs.rule.Messages.{greatest_number}
-use Rattle.messages.specs.rule.Wants.{Wants}
+use Rattle.messages.specs.rule.TokenRuns.{Wants}
 use Rattle.messages.specs.declared.message.Message.TheVariants.{Revoke, Released}
 use Rattle.messages.specs.declared.outcome.Outcome.{Outcome}
 use Rattle.messages.specs.declared.event.NodeInput.TheVariants.{Call, Interrupt}

@@ -11,8 +11,7 @@ use Rattle.messages.specs.rule.Shapes.{ShapeFields}
 use Rattle.messages.specs.declared.message.Message.{Message}
 use Rattle.messages.specs.declared.message.Message.TheVariants.{Taken}
 use Rattle.model.specs.declared.host.Host.{Host}
-use Rattle.token_set.specs.rule.Tokens.{raised}
-use Rattle.token_set.specs.rule.Releases.{after_giving_up}
+use Rattle.token_set.specs.rule.Tokens.{raised, after_giving_up}
 use Rattle.token_set.specs.declared.gave_up.GaveUp.{GaveUp}
 use Rattle.node_core.specs.declared.token_command.TokenCommand.{TokenCommand}
 use Rattle.messages.specs.rule.Messages.{addressee, file_of, is_within, greatest_number}
@@ -21,7 +20,7 @@ use Rattle.node_core.specs.declared.file_row.FileRow.{FileRow}
 use Rattle.node_core.specs.declared.open_call.OpenCall.{OpenCall}
 use Rattle.model.specs.declared.op.ProcessCall.{ProcessCall}
 use Rattle.descriptors.specs.rule.Rows.{processes}
-pub use Rattle.fcntl_table.specs.rule.Targets.{IsOwn, IsSpan}
+pub use Rattle.fcntl_table.specs.rule.Tables.{IsOwn, IsSpan}
 use Rattle.node_core.specs.rule.Files.{file_state}
 use Rattle.node_core.specs.rule.Anchors.{AreAnchored}
 use Rattle.node_core.specs.rule.State.{FileState, NodeState, Effect, with_file, quiet, host, process}

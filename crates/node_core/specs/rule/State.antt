@@ -6,8 +6,7 @@ use Rattle.model.specs.declared.host.Host.{Host}
 use Rattle.model.specs.declared.reply.Reply.{Reply}
 use Rattle.model.specs.rule.Table.{Table, LockTarget, empty_table}
 use Rattle.token_set.specs.rule.Tokens.{Token, no_token}
-use Rattle.messages.specs.rule.Versions.{most_regions}
-use Rattle.messages.specs.rule.Shapes.{ShapeFields}
+use Rattle.messages.specs.rule.Shapes.{most_regions, ShapeFields}
 use Rattle.messages.specs.declared.message.Message.{Message}
 use Rattle.messages.specs.declared.outcome.Outcome.{Outcome}
 use Rattle.node_core.specs.declared.open_call.OpenCall.{OpenCall}

@@ -8,7 +8,7 @@ use Rattle.model.specs.declared.reply.Reply.TheVariants.{Done, Again, Free, Bloc
 use Rattle.model.specs.rule.Locks.{lowest_blocker}
 use Rattle.model.specs.rule.Table.{Table, LockTarget, lock_within}
 use Rattle.token_set.specs.rule.Tokens.{covers, desired}
-use Rattle.messages.specs.rule.Wants.{Wants}
+use Rattle.messages.specs.rule.TokenRuns.{Wants}
 use Rattle.messages.specs.declared.message.Blocking.{Blocking}
 use Rattle.messages.specs.declared.message.Blocking.TheVariants.{No, Yes}
 use Rattle.messages.specs.declared.message.Message.TheVariants.{Request, Freed}

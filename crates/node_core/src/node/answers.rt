@@ -16,11 +16,8 @@ use crate::node_edit::{NodeDraft, NodeEdit, NodeTableEdit};
 use crate::open_call::OpenCall;
 use crate::open_calls::CallsEdit;
 use fcntl_table::locks::lock_reply;
-use messages::message::Message;
-use model::lock_target::LockTarget;
-use model::mode::Mode;
-use model::op::LockCommand;
-use model::reply::Reply;
+use messages::Message;
+use model::{LockCommand, LockTarget, Mode, Reply};
 use std::alloc::{AllocError, Global};
 
 // Whether an answered change of locks may end a conflict with other nodes' calls: it was done, and

@@ -18,12 +18,8 @@ use crate::numbers::is_pid;
 use crate::open_call::OpenCall;
 use fcntl_table::target::target_at;
 use intervals::span::Span;
-use messages::refusal::StepError;
-use model::lock_target::LockTarget;
-use model::mode::Mode;
-use model::op::{LockCall, LockCommand, Op, ProcessCall};
-use model::owner::Kind;
-use model::reply::Reply;
+use messages::StepError;
+use model::{Kind, LockCall, LockCommand, LockTarget, Mode, Op, ProcessCall, Reply};
 use std::alloc::{AllocError, Global};
 
 // Whether the operation is an exit.

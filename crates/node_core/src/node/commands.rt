@@ -1,9 +1,9 @@
 //! How a node takes a message of a token server.
 ghost use Rattle.std.specs.Prelude.{◌≡◌, ◌==◌, ◌+◌, false, Some, Ok, IfOk, IfSome};
 ghost use Rattle.model.specs.rule.Limits.{IsNumber};
-ghost use Rattle.token_set.specs.rule.Releases.{gave_up};
+ghost use Rattle.token_set.specs.rule.Tokens.{gave_up};
 ghost use Rattle.messages.specs.declared.message.Message.TheVariants.{Report};
-ghost use Rattle.messages.specs.rule.Reports.{runs_of};
+ghost use Rattle.messages.specs.rule.Messages.{runs_of};
 ghost use Rattle.node_core.specs.rule.Answers.{answer_of};
 ghost use Rattle.node_core.specs.rule.Commands.{in_epoch, remembered, in_order, granted, revoked, told, denied};
 ghost use Rattle.node_core.specs.rule.State.{host};
@@ -17,11 +17,8 @@ use crate::node_edit::{NodeDraft, NodeEdit};
 use crate::open_call::{OpenCall, refusal_of};
 use crate::token_command::TokenCommand;
 use intervals::span::Span;
-use messages::epoch_number::EpochNumber;
-use messages::file_number::FileNumber;
-use messages::message::Message;
-use messages::wanted::Wanted;
-use model::lock_info::LockInfo;
+use messages::{EpochNumber, FileNumber, Message, Wanted};
+use model::LockInfo;
 use std::alloc::{AllocError, Global};
 use token_set::gave_up::GaveUp;
 

@@ -10,7 +10,7 @@ use crate::effect::Effect;
 use crate::node_edit::NodeEdit;
 use crate::numbers::is_pid;
 use crate::open_call::{OpenCall, interruption_of};
-use messages::refusal::StepError;
+use messages::StepError;
 use std::alloc::{AllocError, Global};
 
 impl Node {

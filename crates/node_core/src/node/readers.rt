@@ -4,16 +4,15 @@
 ghost use Rattle.std.specs.Prelude.{◌≡◌, ◌≤◌, All, IfOk};
 ghost use Rattle.model.specs.rule.Anchors.{IsAnchored};
 ghost use Rattle.model.specs.rule.Locks.{IsOfNode};
-ghost use Rattle.lock_table.specs.rule.Listing.{IsListing};
-ghost use Rattle.token_set.specs.code.Runs.{ListsRuns};
+ghost use Rattle.lock_table.specs.rule.Tables.{IsListing};
+ghost use Rattle.token_set.specs.code.Sets.{ListsRuns};
 ghost use Rattle.node_core.specs.rule.Parts.{node_state, IsCallOf};
 
 use super::Node;
 use crate::numbers::is_within;
 use crate::open_call::OpenCall;
 use intervals::span::Span;
-use model::level::Level;
-use model::lock_info::LockInfo;
+use model::{Level, LockInfo};
 use std::alloc::{AllocError, Global};
 
 impl Node {

@@ -9,9 +9,8 @@ ghost use Rattle.node_core.specs.rule.Parts.{node_state, IsCallOf};
 use super::Node;
 use crate::file_row::FileRow;
 use crate::open_call::OpenCall;
-use messages::file_number::FileNumber;
-use model::call::CallId;
-use model::process::Process;
+use messages::FileNumber;
+use model::{CallId, Process};
 
 impl Node {
     #[tactic(auto, unfolding(crate::specs::rule::Parts::node_state))]

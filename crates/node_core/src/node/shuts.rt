@@ -14,8 +14,7 @@ use super::Node;
 use crate::effect::Effect;
 use crate::node_edit::{NodeDraft, NodeEdit, NodeTableEdit};
 use crate::open_calls::CallsEdit;
-use model::op::Op;
-use model::reply::Reply;
+use model::{Op, Reply};
 use std::alloc::{AllocError, Global};
 
 impl Node {

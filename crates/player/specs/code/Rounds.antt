@@ -1,18 +1,74 @@
--- Runs that go on by rounds, as the code makes them.
-use Rattle.std.specs.Prelude.{◌≡◌, ◌⊎◌, ◌≢◌, ℕ, ◌<◌, ◌≤◌, true, List, ◌++◌, length, slice_get, slice_index_or, Some, Err, Contains}
+-- Runs as the code stores them, and as they go on by lines and by rounds.
+use Rattle.std.specs.Prelude.{ℕ, ◌||◌, nat_lt, Bool, false, List, slice_index_or, ◌≡◌, true, Option, None, ◌⊎◌, ◌≢◌, ◌<◌, ◌≤◌, ◌++◌, length, slice_get, Some, Err, Contains, All}
+use Rattle.cluster_core.specs.rule.Journals.{JournalFields, RunFields, GoesOn, events_of}
+use Rattle.cluster_core.specs.rule.Parts.{WorldParts, world_state}
+use Rattle.lockscript.specs.declared.refused_line.RefusedLine.{RefusedLine}
+use Rattle.player.specs.rule.Progress.{Progress, PlayedState, ComesFrom, ComesTo, FillsJournal}
 use Rattle.messages.specs.declared.entry.Entry.{Entry}
-use Rattle.messages.specs.declared.event.Event.{Event}
-use Rattle.messages.specs.declared.event.Event.TheVariants.{Deliver}
-use Rattle.messages.specs.declared.message.Message.{Message}
 use Rattle.messages.specs.declared.refusal.Refused.{Refused}
+use Rattle.messages.specs.rule.Shapes.{ShapeFields, IsShape}
+use Rattle.cluster_core.specs.rule.Rounds.{IsRound as IsRoundAbout}
+use Rattle.cluster_core.specs.rule.Runs.{Leads}
+use Rattle.cluster_core.specs.rule.World.{WorldState, first_world}
+use Rattle.lockscript.specs.rule.Scripts.{LineFields}
+use Rattle.player.specs.declared.rounds.Calm.{Calm}
+use Rattle.player.specs.rule.Rounds.{EndsCalm, IsRound, cut_of, works, Arrive, EndsRefused, IsCalmed, IsQuietRun, IsDue}
+use Rattle.messages.specs.declared.event.Event.{Event}
+use Rattle.messages.specs.declared.event.Event.TheVariants.{Deliver, AtNode, AtServer}
+use Rattle.messages.specs.declared.message.Message.{Message}
 use Rattle.messages.specs.declared.refusal.Refused.TheVariants.{NoMemory}
 use Rattle.messages.specs.rule.Messages.{addressee, is_among}
-use Rattle.cluster_core.specs.rule.Journals.{RunFields, GoesOn, events_of}
 use Rattle.cluster_core.specs.rule.Next.{is_stopped, kept_next}
-use Rattle.cluster_core.specs.rule.Parts.{world_state}
-use Rattle.cluster_core.specs.rule.World.{WorldState}
-use Rattle.player.specs.declared.calm.Calm.{Calm}
-use Rattle.player.specs.rule.Rounds.{Arrive, EndsRefused, IsCalmed, IsQuietRun, IsRound}
+use Rattle.messages.specs.declared.event.NodeInput.TheVariants.{Retry}
+use Rattle.messages.specs.declared.event.ServerInput.TheVariants.{Resend, Learn}
+use Rattle.node_core.specs.declared.open_call.OpenCall.{OpenCall}
+
+-- each message before the cursor is settled, and each one with a mark
+pub record SettledParts : Type 0 where
+  pub cursor : ℕ
+  pub marks : List Bool
+
+unfoldable pub settled_in : SettledParts → ℕ → Bool
+settled_in s index = nat_lt index s.cursor || slice_index_or s.marks index false
+
+pub record PlayerParts : Type 0 where
+  pub run : RunFields
+  pub settled : SettledParts
+  pub refused : List RefusedLine
+
+abbrev pub progress : PlayerParts → Progress
+progress p = record { entries = p.run.entries; world = world_state p.run.world; settled = settled_in p.settled; refused = p.refused }
+
+pub record PlayedParts : Type 0 where
+  pub journal : JournalFields
+  pub world : WorldParts
+  pub refused : List RefusedLine
+
+abbrev pub state_of : PlayedParts → PlayedState
+state_of p = record { journal = p.journal; world = world_state p.world; refused = p.refused }
+
+-- a script has one outcome at most
+abbrev pub ComesToOne : Type 0
+ComesToOne = (shape : ShapeFields) (lines : List LineFields) (one other : PlayedState) → ComesTo shape lines one → ComesTo shape lines other → one ≡ other
+
+-- a script that fills the journal has no outcome
+abbrev pub FullComesToNothing : Type 0
+FullComesToNothing = (shape : ShapeFields) (lines : List LineFields) (played : PlayedState) → FillsJournal shape lines → ComesTo shape lines played → ⊥
+
+-- after any run, a round is a round about each file whose server works
+abbrev pub RoundsAreAboutFiles : Type 0
+RoundsAreAboutFiles =
+    (shape : ShapeFields) (past es : List Entry) (w v : WorldState) (file : ℕ)
+    → IsShape shape
+    → Leads (first_world shape) past w
+    → IsRound w es v
+    → works w file ≡ true
+    → IsRoundAbout file w es v
+
+-- what the lines come to from where a run stands, as `Comes` says it of a run that begins
+abbrev pub ComesOn : Bool → ShapeFields → Progress → List LineFields → PlayedState → Option Refused → Type 0
+ComesOn false shape from lines played cut = ComesFrom shape from lines played × (cut ≡ None)
+ComesOn true shape from lines played cut = (mid : PlayedState) × (end : Calm) × ComesFrom shape from lines mid × EndsCalm mid end played × (cut ≡ cut_of end)
 
 -- the run goes on by these entries, which are of quiet events
 pub record GoesBy (r : RunFields) (es : List Entry) (s : RunFields) : Type 0 where
@@ -74,3 +130,45 @@ pub record EndsInRound (r s : RunFields) : Type 0 where
 -- the run goes on by rounds, which end so
 abbrev pub GoesCalm : RunFields → RunFields → Calm → Type 0
 GoesCalm r s end = (es : List Entry) × (s.entries ≡ r.entries ++ es) × IsCalmed (world_state r.world) es (world_state s.world) end
+
+-- the list is the old one and behind it all events of a kind
+pub record Adds (Is : Event → Type 0) (old new : List Event) : Type 0 where
+  pub more : List Event
+  pub grew : new ≡ old ++ more
+  pub each : All Is more
+  pub all : (event : Event) → Is event → Contains more event
+
+-- what is due is all there, and nothing else
+pub record AreDue (w : WorldState) (events : List Event) : Type 0 where
+  pub each : All (IsDue w) events
+  pub all : (event : Event) → IsDue w event → Contains events event
+
+-- of one of these numbers
+abbrev pub OfUpTo : (ℕ → Event → Type 0) → ℕ → Event → Type 0
+OfUpTo Is last event = (n : ℕ) × (1 ≤ n) × (n ≤ last) × Is n event
+
+-- the server of the file is to learn of an incarnation of the node
+abbrev pub IsLearnAt : WorldState → ℕ → ℕ → Event → Type 0
+IsLearnAt w file n event = (incarnation : ℕ) × (event ≡ AtServer file (Learn n incarnation)) × IsDue w event
+
+abbrev pub IsLearnOf : WorldState → ℕ → Event → Type 0
+IsLearnOf w file event = (n : ℕ) × IsLearnAt w file n event
+
+abbrev pub IsLearn : WorldState → Event → Type 0
+IsLearn w event = (file : ℕ) × IsLearnOf w file event
+
+-- one of these calls of the node is to be tried again
+abbrev pub IsRetryOf : ℕ → List OpenCall → Event → Type 0
+IsRetryOf n calls event = (c : OpenCall) × Contains calls c × (event ≡ AtNode n (Retry c.pid))
+
+abbrev pub IsRetryAt : WorldState → ℕ → Event → Type 0
+IsRetryAt w n event = (pid : ℕ) × (event ≡ AtNode n (Retry pid)) × IsDue w event
+
+abbrev pub IsRetry : WorldState → Event → Type 0
+IsRetry w event = (n : ℕ) × IsRetryAt w n event
+
+abbrev pub IsResendAt : WorldState → ℕ → Event → Type 0
+IsResendAt w file event = (event ≡ AtServer file Resend) × IsDue w event
+
+abbrev pub IsResend : WorldState → Event → Type 0
+IsResend w event = (file : ℕ) × IsResendAt w file event

@@ -1,5 +1,5 @@
 -- Rounds: stretches of a run in which nothing fails and nothing is lost, and what is open is tried again.
-use Rattle.std.specs.Prelude.{◌≡◌, ◌⊎◌, ℕ, ◌+◌, ◌≤◌, ◌&&◌, Bool, true, List, [], ◌∷◌, ◌++◌, All, Contains, Err}
+use Rattle.std.specs.Prelude.{◌≡◌, ◌⊎◌, ℕ, ◌+◌, ◌≤◌, ◌&&◌, Bool, true, false, List, [], ◌∷◌, ◌++◌, All, Contains, Err, Option, Some, None}
 use Rattle.messages.specs.declared.entry.Entry.{Entry}
 use Rattle.messages.specs.declared.event.Event.{Event}
 use Rattle.messages.specs.declared.event.Event.TheVariants.{AtNode, AtServer, Deliver}
@@ -8,15 +8,17 @@ use Rattle.messages.specs.declared.event.ServerInput.TheVariants.{Resend, Learn}
 use Rattle.messages.specs.declared.message.Message.{Message}
 use Rattle.messages.specs.declared.refusal.Refused.{Refused}
 use Rattle.messages.specs.rule.Messages.{addressee, is_among}
+use Rattle.messages.specs.rule.Shapes.{ShapeFields}
 use Rattle.node_core.specs.declared.open_call.OpenCall.{OpenCall}
-use Rattle.cluster_core.specs.rule.Journals.{events_of}
+use Rattle.cluster_core.specs.rule.Journals.{JournalFields, events_of}
 use Rattle.cluster_core.specs.rule.Next.{is_stopped, kept_next}
 use Rattle.cluster_core.specs.rule.Rounds.{AnswersNone, IsBlockedWait, IsQuiet}
 use Rattle.cluster_core.specs.rule.Runs.{Leads}
 use Rattle.cluster_core.specs.rule.World.{WorldState, has_file, has_node, is_alive}
-use Rattle.player.specs.rule.Played.{PlayedState}
-use Rattle.player.specs.declared.calm.Calm.{Calm}
-use Rattle.player.specs.declared.calm.Calm.TheVariants as calm
+use Rattle.lockscript.specs.rule.Scripts.{LineFields}
+use Rattle.player.specs.rule.Progress.{PlayedState, ComesTo, GoesOnTo}
+use Rattle.player.specs.declared.rounds.Calm.{Calm}
+use Rattle.player.specs.declared.rounds.Calm.TheVariants as calm
 
 -- the entries lead from one world to another, and all are of quiet events
 pub record IsQuietRun (w : WorldState) (es : List Entry) (v : WorldState) : Type 0 where
@@ -110,3 +112,19 @@ pub record EndsCalm (from : PlayedState) (end : Calm) (to : PlayedState) : Type 
   pub refused : to.refused ≡ from.refused
   pub rounds : IsCalmed from.world later to.world end
   pub none_stuck : LeavesNoneStuck end to.world
+
+-- an event that is refused cuts rounds off
+abbrev pub cut_of : Calm → Option Refused
+cut_of calm.NoneOpen = None
+cut_of calm.Silent = None
+cut_of (calm.Refused refusal) = Some refusal
+
+-- the lines come to this; where the run is to be calm, rounds follow behind what they come to, and it is known whether they are cut off
+abbrev pub Comes : Bool → ShapeFields → List LineFields → PlayedState → Option Refused → Type 0
+Comes false shape lines played cut = ComesTo shape lines played × (cut ≡ None)
+Comes true shape lines played cut = (from : PlayedState) × (end : Calm) × ComesTo shape lines from × EndsCalm from end played × (cut ≡ cut_of end)
+
+-- the same behind the run of a journal
+abbrev pub GoesBehind : Bool → JournalFields → List LineFields → PlayedState → Option Refused → Type 0
+GoesBehind false j lines played cut = GoesOnTo j lines played × (cut ≡ None)
+GoesBehind true j lines played cut = (from : PlayedState) × (end : Calm) × GoesOnTo j lines from × EndsCalm from end played × (cut ≡ cut_of end)

@@ -1,27 +1,89 @@
--- What a command comes to.
-use Rattle.std.specs.Prelude.{◌≡◌, ℕ, ⊤, ◌⊎◌, Bool, true, false, List, [], string_bytes, Option, Some, None}
-use Rattle.std.specs.Io.KnownBytes.{Appends}
+-- What a command comes to, its exit status, and what is told of a journal.
+use Rattle.std.specs.Prelude.{◌≡◌, ℕ, ◌⊎◌, ⊤, List, codes, string_bytes, ◌≤◌, ◌++◌, decimal, length, take, Option, unwrap_or, Bool, true, false, [], Some, None}
+use Rattle.replay.specs.declared.fault.Fault.{Fault}
+use Rattle.replay.specs.declared.fault.Fault.TheVariants.{NoMemory, JournalFull, CannotWrite, CannotWriteOutput}
+use Rattle.command_line.specs.declared.refusal.Refusal.{Refusal}
+use Rattle.command_line.specs.declared.refusal.Refusal.TheVariants as refused
 use Rattle.cluster_core.specs.rule.Journals.{JournalFields, IsFirstWrong}
-use Rattle.cluster_core.specs.rule.Runs.{IsRun}
+use Rattle.cluster_core.specs.rule.Runs.{IsRun, Leads}
+use Rattle.cluster_core.specs.rule.World.{WorldState, first_world}
+use Rattle.states.specs.declared.cluster_state.ClusterState.{ClusterState}
+use Rattle.states.specs.rule.States.{IsStateOf}
+use Rattle.states.specs.rule.Texts.{IsStateText}
+use Rattle.replay.specs.declared.shown.Shown.{Shown}
+use Rattle.replay.specs.declared.shown.Shown.TheVariants.{Text, Wanting, No, Partial}
+use Rattle.std.specs.Io.KnownBytes.{Appends}
 use Rattle.command_line.specs.rule.Tasks.{Task, run, threads, audit, history, state, judge, journal_path}
 use Rattle.journal_text.specs.rule.Journals.{journal_text}
 use Rattle.journal_text.specs.rule.Readings.{WritesJournal}
-use Rattle.replay.specs.declared.fault.Fault.{Fault}
-use Rattle.replay.specs.declared.fault.Fault.TheVariants.{CannotWrite, CannotWriteOutput, NoMemory}
-use Rattle.replay.specs.declared.shown.Shown.{Shown}
-use Rattle.replay.specs.declared.shown.Shown.TheVariants.{Text, Partial, No}
 use Rattle.replay.specs.rule.Audits.{HasJournal, HasNewJournal, IsAudit, IsHistory}
-use Rattle.replay.specs.rule.Faults.{IsBehindFault, IsJournalFault, IsOldFault, IsScriptFault, IsThreadsFault}
+use Rattle.replay.specs.rule.Faults.{IsBehindFault, IsJournalFault, IsOldFault, IsScriptFault, IsThreadsFault, IsToolFault}
 use Rattle.replay.specs.rule.Judging.{AreJudged, IsJudgedWith, allowed_of}
-use Rattle.replay.specs.rule.Outputs.{AppendsPart}
-use Rattle.player.specs.rule.Played.{PlayedState}
-use Rattle.replay.specs.rule.Scripts.{HasComparedRun, HasComparedRunBehind, HasRun, HasRunBehind, IsListing}
-use Rattle.replay.specs.rule.Showing.{shown_status, shown_text}
-use Rattle.replay.specs.rule.Statuses.{status_of}
-use Rattle.replay.specs.rule.Threads.{IsTaken, IsTold, ShowsThreads, ThreadedFields}
-use Rattle.replay.specs.rule.Tellings.{IsStateTold}
-use Rattle.replay.specs.rule.ToolFaults.{IsToolFault}
-use Rattle.replay.specs.rule.Stores.{Files, SameFiles, SameOthers}
+use Rattle.replay.specs.rule.Stores.{AppendsPart, shown_status, shown_text, Files, SameFiles, SameOthers}
+use Rattle.player.specs.rule.Progress.{PlayedState}
+use Rattle.replay.specs.rule.Scripts.{HasComparedRun, HasComparedRunBehind, HasRun, HasRunBehind, IsListing, IsTaken, IsTold, ShowsThreads, ThreadedFields}
+
+-- 3: the input or the output is at fault; 4: the run needs more than there is
+abbrev pub status_of : Fault → ℕ
+status_of NoMemory = 4
+status_of JournalFull = 4
+status_of fault = 3
+
+-- a status of a command whose words were taken; with 5 it is not known what was asked
+abbrev pub IsStatus : ℕ → Type 0
+IsStatus status = (status ≡ 0) ⊎ ((status ≡ 1) ⊎ ((status ≡ 3) ⊎ ((status ≡ 4) ⊎ (status ≡ 5))))
+
+-- the words ask for help, or for the version
+abbrev pub IsHelp : Refusal → Type 0
+IsHelp (refused.Help text) = ⊤
+IsHelp refusal = ⊥
+
+-- what is shown
+abbrev pub refusal_text : Refusal → List ℕ
+refusal_text (refused.Help text) = string_bytes text
+refusal_text (refused.Wrong text) = string_bytes text
+refusal_text refused.NotText = codes "a word of the command line is not UTF-8\n"
+refusal_text refused.NoMemory = codes "no memory\n"
+
+-- the exit status
+abbrev pub refusal_status : Refusal → ℕ
+refusal_status (refused.Help text) = 0
+refusal_status (refused.Wrong text) = 2
+refusal_status refused.NotText = 2
+refusal_status refused.NoMemory = 4
+
+-- why the words could not be read; what they say is not known then
+abbrev pub AreUnread : Refusal → Type 0
+AreUnread refused.NotText = ⊤
+AreUnread refused.NoMemory = ⊤
+AreUnread refusal = ⊥
+
+-- the position behind which a state is told: that of the last entry, where none is given
+abbrev pub position_of : JournalFields → Option ℕ → ℕ
+position_of j at = unwrap_or at (length j.entries)
+
+-- the journal has the entry, if one is given
+abbrev pub HasEntry : JournalFields → Option ℕ → Type 0
+HasEntry j at = position_of j at ≤ length j.entries
+
+-- that it has not, and the position of the last one
+abbrev pub lack_text : ℕ → ℕ → List ℕ
+lack_text position last = codes "no entry " ++ decimal position ++ codes ", the last is " ++ decimal last ++ codes "\n"
+
+-- this is the state of the world to which the entries up to a position lead
+abbrev pub IsStateBehind : JournalFields → ℕ → ClusterState → Type 0
+IsStateBehind j position told = (w : WorldState) × Leads (first_world j.shape) (take position j.entries) w × IsStateOf w told
+
+-- the text is that of this very state
+abbrev pub TellsState : JournalFields → Option ℕ → List ℕ → Type 0
+TellsState j at text = HasEntry j at × ((told : ClusterState) × IsStateBehind j (position_of j at) told × IsStateText j.shape.version (position_of j at) told text)
+
+-- what is shown for a state: its text, or that there is no such entry, where the entries are a run, and else the first wrong entry
+abbrev pub IsStateTold : JournalFields → Option ℕ → Shown → Type 0
+IsStateTold j at (Text text) = IsRun j.shape j.entries × TellsState j at (string_bytes text)
+IsStateTold j at (Wanting text) = IsRun j.shape j.entries × ¬ (HasEntry j at) × (string_bytes text ≡ lack_text (position_of j at) (length j.entries))
+IsStateTold j at (No position) = IsFirstWrong j.shape j.entries position
+IsStateTold j at shown = ⊥
 
 -- the text of a journal is in the file of this path, and no other file changed; with no path none did
 abbrev pub KeepsJournal : Files → Option (List ℕ) → List ℕ → Files → Type 0

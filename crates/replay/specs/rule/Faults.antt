@@ -1,5 +1,5 @@
--- What a fault of a part is to the command, what it says of a file, and the line that tells of it.
-use Rattle.std.specs.Prelude.{◌≡◌, ℕ, ◌<◌, ◌⊎◌, List, ◌++◌, codes, decimal, length, string_bytes, Option, Some, None}
+-- What a fault of a part is to the command, and what it says of a file.
+use Rattle.std.specs.Prelude.{◌≡◌, ℕ, ◌<◌, ◌⊎◌, List, ◌++◌, codes, decimal, length, string_bytes, Option, Some, None, ⊤}
 use Rattle.cluster_core.specs.rule.Journals.{JournalFields}
 use Rattle.cluster_core.specs.rule.World.{journal_limit}
 use Rattle.journal_text.specs.rule.Readings as readings
@@ -14,9 +14,8 @@ use Rattle.lockscript.specs.declared.play_error.PlayError.TheVariants as play
 use Rattle.replay.specs.declared.fault.Fault.{Fault}
 use Rattle.replay.specs.declared.fault.Fault.TheVariants.{BadLine, CannotRead, CannotWrite, CannotWriteOutput, NoMemory, JournalFull, OldJournal, Faulty}
 use Rattle.replay.specs.rule.Audits.{HasEntries, HasJournal, HasNewJournal, WritesFew}
-use Rattle.player.specs.rule.Played.{FillsBehind, FillsJournal}
-use Rattle.replay.specs.rule.Scripts.{HasScript, HasScriptFor}
-use Rattle.replay.specs.rule.Threads.{FillsOnThreads, IsTaken}
+use Rattle.player.specs.rule.Progress.{FillsBehind, FillsJournal}
+use Rattle.replay.specs.rule.Scripts.{HasScript, HasScriptFor, FillsOnThreads, IsTaken}
 use Rattle.replay.specs.rule.Stores.{Files, HasNoText, HasText, SameFiles, SameOthers}
 
 abbrev pub fault_of_parse : ParseError → Fault
@@ -123,3 +122,14 @@ fault_line NoMemory = codes "no memory\n"
 fault_line JournalFull = codes "journal full\n"
 fault_line OldJournal = codes "old journal\n"
 fault_line (Faulty report) = string_bytes report
+
+-- something is reported, or memory is short
+abbrev pub IsReportOf : Fault → Type 0
+IsReportOf (Faulty report) = ⊤
+IsReportOf NoMemory = ⊤
+IsReportOf fault = ⊥
+
+-- why a tool that reads the files of some paths shows nothing: one of them has no text, or such a report
+abbrev pub IsToolFault : Files → (List ℕ → Type 0) → Fault → Type 0
+IsToolFault old Reads (CannotRead named reason) = Reads named.now × HasNoText (old named.now)
+IsToolFault old Reads fault = IsReportOf fault

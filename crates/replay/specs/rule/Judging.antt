@@ -1,14 +1,14 @@
 -- What is said of histories of files.
 use Rattle.std.specs.Prelude.{◌≡◌, ◌⊎◌, ℕ, true, false, fold, List, All, Any, Contains, Option, Some, None, String}
 use Rattle.std.specs.Global.{Global}
-use Rattle.command_line.specs.declared.allowed_rule.AllowedRule.{AllowedRule}
-use Rattle.command_line.specs.declared.allowed_rule.AllowedRule.TheVariants.{WaitDrops, CloseOwnDescriptor, NoQuery, StaleReadDenial, LostAt}
+use Rattle.command_line.specs.declared.judge_line.AllowedRule.{AllowedRule}
+use Rattle.command_line.specs.declared.judge_line.AllowedRule.TheVariants.{WaitDrops, CloseOwnDescriptor, NoQuery, StaleReadDenial, LostAt}
 use Rattle.history_text.specs.declared.written_history.WrittenHistory.{WrittenHistory}
 use Rattle.history_text.specs.declared.rule.Allowed.{Allowed}
 use Rattle.history_text.specs.rule.Histories.{IsHistoryOf}
-use Rattle.judgements.specs.declared.judging.JudgementOutcome.{JudgementOutcome}
-use Rattle.judgements.specs.declared.judging.JudgementOutcome.TheVariants as outcome
-use Rattle.judgements.specs.rule.Judgements.{IsJudgement, IsOrdered}
+use Rattle.history_text.specs.declared.judging.JudgementOutcome.{JudgementOutcome}
+use Rattle.history_text.specs.declared.judging.JudgementOutcome.TheVariants as outcome
+use Rattle.history_text.specs.rule.Judgements.{IsJudgement, IsOrdered}
 use Rattle.replay.specs.declared.shown.Shown.{Shown}
 use Rattle.replay.specs.declared.shown.Shown.TheVariants.{Text, Wanting, Undecided}
 use Rattle.replay.specs.rule.Stores.{Files, HasText}

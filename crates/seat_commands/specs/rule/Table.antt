@@ -4,7 +4,7 @@ use denote.Ref.{Bor}
 use Rattle.clap.specs.Words.{App, Rule, Text, new_app, with_rule, with_subcommand}
 use Rattle.clap.specs.Simple.{on_top}
 use Rattle.clap.specs.declared.builder.value_parser.ValueParser.TheVariants.{Names, Signed}
-use Rattle.command_line.specs.rule.Program.{flag_rule, number_rule, option_rule, path_rule, paths_rule}
+use Rattle.command_line.specs.rule.Words.{flag_rule, number_rule, option_rule, path_rule, paths_rule}
 
 -- the words of which an argument is one, as they lie in memory
 abbrev pub Choice : Type 0

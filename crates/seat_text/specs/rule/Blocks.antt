@@ -11,14 +11,14 @@ use Rattle.messages.specs.declared.message.Message.{Message}
 use Rattle.messages.specs.declared.refusal.Refused.{Refused}
 use Rattle.messages.specs.declared.version.Version.TheVariants.{Second}
 use Rattle.messages.specs.rule.Messages.{addressee, same_call}
-use Rattle.messages.specs.rule.Refusals.{number_of}
+use Rattle.messages.specs.rule.Entries.{number_of}
 use Rattle.messages.specs.rule.Shapes.{ShapeFields}
 use Rattle.message_text.specs.rule.Texts.{message_text}
 use Rattle.lockscript.specs.rule.Scripts.{counts_text}
 use Rattle.journal_text.specs.rule.Journals.{end_text, reply_line}
 use Rattle.journal_text.specs.rule.Texts.{event_text}
 use Rattle.seats.specs.declared.seat_step.SeatStep.{SeatStep}
-use Rattle.seat_text.specs.declared.ledger.TaggedCall.{TaggedCall}
+use Rattle.seat_text.specs.declared.writing.TaggedCall.{TaggedCall}
 
 -- the number of entries so far, and of each process the call that had a tag, if its last one had
 pub record Ledger : Type 0 where
@@ -71,15 +71,16 @@ count_after count event = min (count + 1) greatest_count
 abbrev pub after_step : Option ℕ → Ledger → SeatStep → Ledger
 after_step tag ledger x = record { count = count_after ledger.count x.event; tags = tags_after tag ledger.tags x.event x.outcome.call }
 
--- the first line of a step: an entry by its number, or a change of a member
-abbrev pub first_line : ℕ → Event → ℕ → Option CallId → List ℕ
-first_line count (Member change) incarnation call = codes "member " ++ (event_text Second (Member change) incarnation call ++ codes "\n")
-first_line count event incarnation call = codes "entry " ++ decimal count ++ codes " " ++ (event_text Second event incarnation call ++ codes "\n")
+-- what stands before the event in the first line of a step: an entry by its number, or a change of a member
+abbrev pub first_front : ℕ → Event → List ℕ
+first_front count (Member change) = codes "member "
+first_front count event = codes "entry " ++ decimal count ++ codes " "
 
 -- the lines of a step, with the ledger after it
 abbrev pub step_text : Ledger → SeatStep → List ℕ
 step_text after x =
-    first_line after.count x.event x.incarnation x.outcome.call ++ reply_line x.outcome.reply ++ tag_line after.tags x.outcome.reply ++ to_lines x.outcome.sends
+    first_front after.count x.event ++ (event_text Second x.event x.incarnation x.outcome.call ++ codes "\n")
+    ++ reply_line x.outcome.reply ++ tag_line after.tags x.outcome.reply ++ to_lines x.outcome.sends
 
 -- a step more is written down
 abbrev pub written : Option ℕ → Ledger × List ℕ → SeatStep → Ledger × List ℕ

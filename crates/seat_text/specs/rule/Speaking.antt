@@ -3,11 +3,10 @@ use Rattle.std.specs.Prelude.{◌≡◌, ◌≢◌, ◌+◌, ◌<◌, ◌≤◌,
 use Rattle.messages.specs.declared.refusal.Refused.{Refused}
 use Rattle.seats.specs.declared.order.Order.{Order}
 use Rattle.seats.specs.declared.seat_step.SeatStep.{SeatStep}
-use Rattle.talks.specs.Talks.{longest_line}
+use Rattle.seat_text.specs.rule.Talks.{longest_line}
 use Rattle.seat_text.specs.declared.seat_line.SeatLine.{SeatLine}
 use Rattle.seat_text.specs.rule.Blocks.{Ledger, bad_line, block}
-use Rattle.seat_text.specs.rule.Columns.{column_of}
-use Rattle.seat_text.specs.rule.SeatLines.{IsServedLine, line_text, order_of, tag_of}
+use Rattle.seat_text.specs.rule.SeatLines.{column_of, IsServedLine, line_text, order_of, tag_of}
 
 -- who has the seat, and what was written
 pub record Speaking (S : Type 0) : Type 0 where

@@ -22,8 +22,7 @@ use Rattle.seats.specs.declared.order.Order.{Order}
 use Rattle.seats.specs.declared.order.Order.TheVariants.{Happens, Tick}
 use Rattle.seats.specs.declared.seat_step.SeatStep.{SeatStep}
 use Rattle.seats.specs.declared.wait.Wait.{Wait}
-use Rattle.seats.specs.rule.Waits.{is_made, wait_of, waited}
-use Rattle.seats.specs.rule.Steps.{has_begun, of_member, step_of, stepped}
+use Rattle.seats.specs.rule.Steps.{is_made, wait_of, waited, has_begun, of_member, step_of, stepped}
 
 -- a node, how many of its beginnings it leaves to seats before, its state while it works, how long its open calls wait, and the members as the seat was
 -- told of them

@@ -3,7 +3,7 @@ use Rattle.std.specs.Prelude.{◌≡◌, ℕ, List, Option, length}
 use Rattle.std.specs.Option.{option_map}
 use Rattle.model.specs.rule.Limits.{IsNumber}
 use Rattle.messages.specs.rule.Shapes.{ShapeFields}
-use Rattle.messages.specs.rule.Parts.{MembersParts, members_state}
+use Rattle.messages.specs.rule.Members.{MembersParts, members_state}
 use Rattle.node_core.specs.rule.Parts.{NodeParts, node_state}
 use Rattle.token_server.specs.rule.Parts.{ServerParts, server_state}
 use Rattle.messages.specs.declared.pace.Pace.{Pace}

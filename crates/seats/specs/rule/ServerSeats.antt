@@ -10,7 +10,7 @@ use Rattle.messages.specs.declared.refusal.Refused.{Refused}
 use Rattle.messages.specs.declared.refusal.Refused.TheVariants.{Stranger, Fenced}
 use Rattle.messages.specs.declared.refusal.StepError.{StepError}
 use Rattle.messages.specs.rule.Messages.{host_of, sending}
-use Rattle.messages.specs.rule.Refusals.{refused_by}
+use Rattle.messages.specs.rule.Entries.{refused_by}
 use Rattle.messages.specs.rule.Shapes.{ShapeFields}
 use Rattle.messages.specs.rule.Members.{MembersState, declared_failed, first_members, restarted}
 use Rattle.token_server.specs.declared.event.ServerEvent.TheVariants as own
@@ -22,8 +22,7 @@ use Rattle.seats.specs.declared.order.Order.TheVariants.{Happens, Tick}
 use Rattle.messages.specs.declared.pace.Pace.{Pace}
 use Rattle.seats.specs.declared.seat_step.SeatStep.{SeatStep}
 use Rattle.messages.specs.rule.Distances.{at_rest, begun, is_due_at, noted, passed}
-use Rattle.seats.specs.rule.Waits.{is_none}
-use Rattle.seats.specs.rule.Steps.{has_begun, of_member, step_of, stepped}
+use Rattle.seats.specs.rule.Steps.{is_none, has_begun, of_member, step_of, stepped}
 
 -- the token server of a file, how many of its beginnings it leaves to seats before, its state while it works, when it sends again, and the members as
 -- the seat was told of them

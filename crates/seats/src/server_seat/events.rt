@@ -10,10 +10,7 @@ ghost use Rattle.seats.specs.rule.Parts.{server_seat};
 
 use super::{ServerSeat, happen_at, hear_of, rebuild, tick_at};
 use crate::seat_step::{SeatStep, silent};
-use messages::event::{Event, MemberEvent};
-use messages::items::Items;
-use messages::pace::Pace;
-use messages::refusal::Refused;
+use messages::{Event, Items, MemberEvent, Pace, Refused};
 use std::alloc::Global;
 
 impl ServerSeat {

@@ -1,8 +1,18 @@
--- What is told of a world.
-use Rattle.std.specs.Prelude.{◌≡◌, ℕ, ◌-◌, ◌<◌, nat_lt, Bool, ◌&&◌, if◌then◌else◌, List, [], All, filter, map, is_some, Some, None}
+-- What is told of a world, its open calls, and the locks that block them.
+use Rattle.std.specs.Prelude.{◌≡◌, ℕ, zero, suc, Bool, true, false, if◌then◌else◌, List, [], ◌++◌, ◌-◌, ◌<◌, nat_lt, ◌&&◌, All, filter, map, is_some, Some, None}
+use Rattle.model.specs.declared.lock_info.LockInfo.{LockInfo}
+use Rattle.model.specs.declared.op.LockCommand.{LockCommand}
+use Rattle.model.specs.declared.op.LockCommand.TheVariants.{Wait}
+use Rattle.model.specs.rule.Limits.{most_nodes}
+use Rattle.model.specs.rule.Locks.{Blocks}
+use Rattle.lock_table.specs.rule.Tables.{IsBefore}
+use Rattle.node_core.specs.declared.open_call.OpenCall.{OpenCall}
+use Rattle.cluster_core.specs.rule.World.{WorldState, has_file, is_alive, has_node}
+use Rattle.cluster_core.specs.rule.Union.{union}
+use Rattle.cluster_core.specs.rule.Listings.{Lists, IsTokenListing, IsLockListing}
+use Rattle.states.specs.declared.open_call.OpenState.{OpenState}
 use Rattle.std.specs.List.{range_with_len}
 use Rattle.intervals.specs.rule.Bytes.{IsRun}
-use Rattle.model.specs.rule.Limits.{most_nodes}
 use Rattle.messages.specs.rule.Shapes.{most_files}
 use Rattle.token_server.specs.declared.token_queue.active_request.ActiveRequest.{ActiveRequest}
 use Rattle.token_server.specs.rule.Actives.{requests_of}
@@ -10,13 +20,37 @@ use Rattle.token_server.specs.rule.Rows.{Row, is_awaited}
 use Rattle.token_server.specs.declared.shown_row.ShownRow.{ShownRow}
 use Rattle.token_server.specs.rule.State.{ServerState}
 use Rattle.token_server.specs.rule.Obstacles.{obstacle}
-use Rattle.cluster_core.specs.rule.World.{WorldState, has_file, has_node, is_alive}
-use Rattle.cluster_core.specs.rule.Listings.{Lists, IsTokenListing, IsLockListing}
-use Rattle.states.specs.declared.told_node.ToldNode.{ToldNode}
-use Rattle.states.specs.declared.told_server.ToldEpoch.{ToldEpoch}
-use Rattle.states.specs.declared.told_server.KnownDead.{KnownDead}
-use Rattle.states.specs.declared.told_server.ToldServer.{ToldServer}
+use Rattle.states.specs.declared.cluster_state.ToldNode.{ToldNode}
+use Rattle.states.specs.declared.cluster_state.ToldEpoch.{ToldEpoch}
+use Rattle.states.specs.declared.cluster_state.KnownDead.{KnownDead}
+use Rattle.states.specs.declared.cluster_state.ToldServer.{ToldServer}
 use Rattle.states.specs.declared.cluster_state.ClusterState.{ClusterState}
+
+-- the open calls of the node with that number, in the order in which it took them, if it is alive
+abbrev pub open_on : WorldState → ℕ → List OpenCall
+open_on w n = if is_alive w n then (w.nodes n).pending else []
+
+-- those of the nodes up to this one, by rising node
+unfoldable pub open_up_to : WorldState → ℕ → List OpenCall
+open_up_to w zero = []
+open_up_to w (suc n) = open_up_to w n ++ open_on w (suc n)
+
+-- those of all nodes
+abbrev pub open_in : WorldState → List OpenCall
+open_in w = open_up_to w most_nodes
+
+abbrev pub is_wait : LockCommand → Bool
+is_wait Wait = true
+is_wait _ = false
+
+-- a region of a live node's owner, in a file of the cluster, that blocks the call
+pub record IsBlocker (w : WorldState) (c : OpenCall) (lock : LockInfo) : Type 0 where
+  pub file_in : has_file w c.file ≡ true
+  pub blocks : Blocks ((union w).locks c.file) c.owner c.span c.mode lock
+
+-- what is told of an open call: each lock that blocks it, once, by first byte and then by owner
+abbrev pub IsOpenState : WorldState → OpenState → Type 0
+IsOpenState w o = Lists (IsBlocker w o.asked) IsBefore o.locks.items
 
 -- the numbers from 1 to n that pass the test, rising
 abbrev pub numbers_where : (ℕ → Bool) → ℕ → List ℕ

@@ -8,18 +8,17 @@ use Rattle.texts.specs.rule.Words.{level_text}
 use Rattle.messages.specs.declared.message.Message.{Message}
 use Rattle.messages.specs.declared.message.Message.TheVariants.{Request}
 use Rattle.messages.specs.declared.version.Version.{Version}
-use Rattle.message_text.specs.rule.Names.{host_text, lock_text}
-use Rattle.message_text.specs.rule.Texts.{message_text}
+use Rattle.message_text.specs.rule.Texts.{host_text, lock_text, message_text}
 use Rattle.node_core.specs.declared.open_call.OpenCall.{OpenCall}
 use Rattle.token_server.specs.declared.shown_row.ShownRow.{ShownRow}
 use Rattle.token_server.specs.declared.token_queue.active_request.ActiveRequest.{ActiveRequest}
 use Rattle.token_server.specs.declared.token_queue.token_request.TokenRequest.{TokenRequest}
 use Rattle.cluster_core.specs.declared.held_lock.HeldLock.{HeldLock}
 use Rattle.cluster_core.specs.declared.node_token_run.NodeTokenRun.{NodeTokenRun}
-use Rattle.states.specs.declared.told_node.ToldNode.{ToldNode}
-use Rattle.states.specs.declared.told_server.ToldEpoch.{ToldEpoch}
-use Rattle.states.specs.declared.told_server.KnownDead.{KnownDead}
-use Rattle.states.specs.declared.told_server.ToldServer.{ToldServer}
+use Rattle.states.specs.declared.cluster_state.ToldNode.{ToldNode}
+use Rattle.states.specs.declared.cluster_state.ToldEpoch.{ToldEpoch}
+use Rattle.states.specs.declared.cluster_state.KnownDead.{KnownDead}
+use Rattle.states.specs.declared.cluster_state.ToldServer.{ToldServer}
 use Rattle.states.specs.declared.cluster_state.ClusterState.{ClusterState}
 
 -- of a node: that it is alive, and the incarnations that were declared failed
@@ -59,24 +58,12 @@ command_word Query = codes "query"
 abbrev pub asked_text : OpenCall → List ℕ
 asked_text c = command_word c.lock_command ++ codes " " ++ lock_text (record { owner = c.owner; mode = c.mode; span = c.span }) ++ codes "\n"
 
-abbrev pub opening_text : ℕ → ℕ → List ℕ
-opening_text node incarnation = codes "open " ++ host_text node incarnation
-
-abbrev pub process_text : OpenCall → List ℕ
-process_text c = codes "." ++ decimal c.number ++ codes " process " ++ decimal c.pid
-
-abbrev pub file_text : OpenCall → List ℕ
-file_text c = codes " file " ++ decimal c.file ++ codes " "
-
 abbrev pub open_line : ℕ → ℕ → OpenCall → List ℕ
-open_line node incarnation c = opening_text node incarnation ++ (process_text c ++ (file_text c ++ asked_text c))
-
-abbrev pub open_lines_in : ℕ → ℕ → List OpenCall → List ℕ
-open_lines_in node incarnation calls = flat_map (open_line node incarnation) calls
+open_line node incarnation c = codes "open " ++ host_text node incarnation ++ codes "." ++ decimal c.number ++ codes " process " ++ decimal c.pid ++ codes " file " ++ decimal c.file ++ codes " " ++ asked_text c
 
 abbrev pub open_lines_of : ℕ → Option ℕ → List OpenCall → List ℕ
 open_lines_of node None calls = []
-open_lines_of node (Some incarnation) calls = open_lines_in node incarnation calls
+open_lines_of node (Some incarnation) calls = flat_map (open_line node incarnation) calls
 
 abbrev pub open_lines : ToldNode → List ℕ
 open_lines t = open_lines_of t.node t.live t.calls.items
@@ -114,46 +101,31 @@ row_name file row = codes "server " ++ decimal file ++ codes " row " ++ host_tex
 abbrev pub row_token_line : ℕ → ShownRow → Range × Level → List ℕ
 row_token_line file row run = row_name file row ++ codes " token " ++ level_text run.1 ++ codes " " ++ decimal run.0.lo ++ codes " " ++ decimal run.0.hi ++ codes "\n"
 
-abbrev pub row_token_lines : ℕ → ShownRow → List (Range × Level) → List ℕ
-row_token_lines file row runs = flat_map (row_token_line file row) runs
-
 abbrev pub command_line : Version → ℕ → ShownRow → Option Message → List ℕ
 command_line version file row None = []
 command_line version file row (Some command) = row_name file row ++ codes " is to answer: " ++ message_text version command ++ codes "\n"
 
 abbrev pub row_lines : Version → ℕ → ShownRow → List ℕ
-row_lines version file row = row_name file row ++ codes " commands " ++ decimal (row.number % 4294967296) ++ codes "\n" ++ row_token_lines file row row.token.items ++ command_line version file row row.command
-
-abbrev pub row_lines_of : Version → ℕ → List ShownRow → List ℕ
-row_lines_of version file rows = flat_map (row_lines version file) rows
+row_lines version file row = row_name file row ++ codes " commands " ++ decimal (row.number % 4294967296) ++ codes "\n" ++ flat_map (row_token_line file row) row.token.items ++ command_line version file row row.command
 
 -- of the nodes whose reports a server awaits, and of the incarnations that it knows to be dead
 abbrev pub awaited_line : ℕ → ℕ → List ℕ
 awaited_line file node = codes "server " ++ decimal file ++ codes " waits for the report of node " ++ decimal node ++ codes "\n"
 
-abbrev pub awaited_lines : ℕ → List ℕ → List ℕ
-awaited_lines file nodes = flat_map (awaited_line file) nodes
-
 abbrev pub dead_line : ℕ → KnownDead → List ℕ
 dead_line file known = codes "server " ++ decimal file ++ codes " knows dead " ++ host_text known.node known.incarnation ++ codes "\n"
-
-abbrev pub dead_lines : ℕ → List KnownDead → List ℕ
-dead_lines file dead = flat_map (dead_line file) dead
 
 -- of a server
 abbrev pub server_lines : Version → ToldServer → List ℕ
 server_lines version s =
-    served_lines version s.file s.served.items ++ put_lines version s.file (codes "queued") s.queued.items ++ put_lines version s.file (codes "waiting") s.waiting.items ++ row_lines_of version s.file s.rows.items ++ awaited_lines s.file s.awaited.items
-    ++ dead_lines s.file s.dead.items
-
-abbrev pub server_lines_of : Version → List ToldServer → List ℕ
-server_lines_of version servers = flat_map (server_lines version) servers
+    served_lines version s.file s.served.items ++ put_lines version s.file (codes "queued") s.queued.items ++ put_lines version s.file (codes "waiting") s.waiting.items ++ flat_map (row_lines version s.file) s.rows.items
+    ++ flat_map (awaited_line s.file) s.awaited.items ++ flat_map (dead_line s.file) s.dead.items
 
 -- of a cluster, behind so many entries
 abbrev pub state_text : Version → ℕ → ClusterState → List ℕ
 state_text version position t =
     codes "state after entry " ++ decimal position ++ codes "\n" ++ flat_map node_lines t.nodes.items ++ flat_map epoch_lines t.epochs.items ++ flat_map token_line t.tokens.items ++ flat_map held_line t.locks.items
-    ++ flat_map open_lines t.nodes.items ++ server_lines_of version t.servers.items
+    ++ flat_map open_lines t.nodes.items ++ flat_map (server_lines version) t.servers.items
 
 abbrev pub IsStateText : Version → ℕ → ClusterState → List ℕ → Type 0
 IsStateText version position t text = text ≡ state_text version position t

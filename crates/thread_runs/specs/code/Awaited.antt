@@ -3,10 +3,10 @@ use Rattle.std.specs.Prelude.{◌≡◌, ℕ, Bool, true, List, Some}
 use Rattle.std.specs.BTreeMap as tree
 use Rattle.std.specs.BTreeMap.{BTreeMap}
 use Rattle.std.specs.Ordering.{nat_cmp}
-use Rattle.messages.specs.rule.Parts.{MembersParts, members_state}
+use Rattle.messages.specs.rule.Members.{MembersParts, members_state}
 use Rattle.lockscript.specs.declared.script_line.ScriptCommand.{ScriptCommand}
 use Rattle.thread_runs.specs.declared.played_line.PlayedLine.{PlayedLine}
-use Rattle.thread_runs.specs.rule.Denials.{ClusterMembers, fails_in}
+use Rattle.thread_runs.specs.rule.Runs.{ClusterMembers, fails_in}
 
 -- the members that the code's lists stand for
 abbrev pub members_of : MembersParts → ClusterMembers

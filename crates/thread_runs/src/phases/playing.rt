@@ -1,19 +1,12 @@
 //! The play of phases by threads.
 use super::Phases;
-use crate::call_queue::NextCall;
-use crate::line_outcome::LineOutcome;
-use crate::phase_calls::PhaseCalls;
-use crate::run_watcher::RunWatcher;
-use crate::stage::Stage;
-use actors::call_error::CallError;
-use actors::client::Client;
-use actors::gate::Gate;
-use book::trail_name::Name;
-use lockscript::play_error::PlayError;
-use lockscript::script_line::ScriptCommand;
-use model::op::Op;
-use std::sync::Wait;
+use crate::{CallQueue, LineOutcome, NextCall, RunWatcher, Stage};
+use actors::{CallError, Client, Gate};
+use book::Name;
+use lockscript::{PlayError, ScriptCommand};
+use model::Op;
 use std::sync::atomic::AtomicU64;
+use std::sync::{Mutex, Wait};
 use std::thread::{Scope, Threads};
 use std::time::Clock;
 use std::{mem, thread};
@@ -50,7 +43,7 @@ impl<'a, 'b, J: Name + Send + Sync, G: Gate + Sync> Phases<'a, 'b, J, G> {
     fn play_all<R: Threads + Wait + Clock + Sync, V: RunWatcher>(
         &mut self,
         rt: &R,
-        parts: &[PhaseCalls<'a, J, G>],
+        parts: &[Mutex<CallQueue<'a, J, G>>],
         watcher: &mut V,
     ) -> Result<(), PlayError> {
         let cluster = self.cluster;
@@ -115,7 +108,7 @@ impl<'a, 'b, J: Name + Send + Sync, G: Gate + Sync> Phases<'a, 'b, J, G> {
         let Some(part) = self.part_of(stage.parts, node, pid) else {
             return Ok(());
         };
-        let client = if part.needs_client(stage.rt) {
+        let client = if part.lock(stage.rt).needs_client {
             match self.client(stage.rt, node, pid) {
                 Ok(client) => Some(client),
                 Err(CallError::NoMemory) => return Err(PlayError::NoMemory),
@@ -127,17 +120,17 @@ impl<'a, 'b, J: Name + Send + Sync, G: Gate + Sync> Phases<'a, 'b, J, G> {
         } else {
             None
         };
-        part.add(stage.rt, NextCall { index, op, client })?;
+        part.lock(stage.rt).add(NextCall { index, op, client })?;
         Ok(())
     }
 
     // The part of the process in the phase, if it has one.
     fn part_of<'p>(
         &self,
-        parts: &'p [PhaseCalls<'a, J, G>],
+        parts: &'p [Mutex<CallQueue<'a, J, G>>],
         node: u8,
         pid: u16,
-    ) -> Option<&'p PhaseCalls<'a, J, G>> {
+    ) -> Option<&'p Mutex<CallQueue<'a, J, G>>> {
         parts.get(*self.places.get(&(node, pid))?)
     }
 
@@ -151,8 +144,8 @@ impl<'a, 'b, J: Name + Send + Sync, G: Gate + Sync> Phases<'a, 'b, J, G> {
     }
 
     // Notes the outcomes of a part that was played, and keeps its client.
-    fn end(&mut self, part: PhaseCalls<'a, J, G>) -> Result<(), PlayError> {
-        let (outcomes, client) = part.into_outcomes()?;
+    fn end(&mut self, part: Mutex<CallQueue<'a, J, G>>) -> Result<(), PlayError> {
+        let (outcomes, client) = part.into_inner().into_outcomes()?;
         for (index, outcome) in outcomes.iter() {
             self.note(*index, *outcome);
             self.see(outcome);

@@ -5,7 +5,7 @@ use Rattle.intervals.specs.rule.Search.{first, some_passes}
 use Rattle.intervals.specs.rule.Bytes.{Range, is_in, largest_around}
 use Rattle.model.specs.declared.host.Host.{Host}
 use Rattle.token_set.specs.rule.Tokens.{Token, raised}
-use Rattle.messages.specs.rule.Wants.{Wants}
+use Rattle.messages.specs.rule.TokenRuns.{Wants}
 use Rattle.messages.specs.declared.refusal.StepError.{StepError}
 use Rattle.messages.specs.declared.refusal.StepError.TheVariants.{Spent}
 use Rattle.messages.specs.declared.message.Message.{Message}

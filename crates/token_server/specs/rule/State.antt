@@ -1,8 +1,7 @@
 -- The state of a token server.
 use Rattle.std.specs.Prelude.{ℕ, ◌-◌, Bool, not, ◌&&◌, ◌==◌, max, if◌then◌else◌, List, [], ◌++◌, filter, Option, Some, None}
 use Rattle.intervals.specs.rule.Search.{some_passes}
-use Rattle.messages.specs.rule.Shapes.{ShapeFields}
-use Rattle.messages.specs.rule.Epochs.{before_epoch}
+use Rattle.messages.specs.rule.Shapes.{ShapeFields, before_epoch}
 use Rattle.messages.specs.rule.Messages.{is_within}
 use Rattle.token_server.specs.declared.token_queue.token_request.TokenRequest.{TokenRequest}
 use Rattle.token_server.specs.rule.Requests.{is_up_to}

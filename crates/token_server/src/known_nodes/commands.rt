@@ -1,16 +1,13 @@
 //! The commands that a token server sent to one node.
 ghost use Rattle.std.specs.Prelude.{◌≡◌, ◌≤◌, ◌+◌, ◌↔◌, IsTrue, Some, None};
-ghost use Rattle.messages.specs.rule.Epochs.{IsEpoch, before_epoch};
+ghost use Rattle.messages.specs.rule.Shapes.{IsEpoch, before_epoch};
 ghost use Rattle.messages.specs.declared.message.Message.TheVariants.{Hello};
 ghost use Rattle.token_server.specs.rule.Rows.{is_hello};
-ghost use Rattle.token_server.specs.code.Sent.{awaiting, next_number, told_commands, answered_commands};
+ghost use Rattle.token_server.specs.code.Rows.{awaiting, next_number, told_commands, answered_commands};
 
 use crate::known_nodes::server_command::{Order, ServerCommand};
-use messages::command_number::{CommandNumber, GREATEST_NUMBER};
-use messages::epoch_number::EpochNumber;
-use messages::file_number::FileNumber;
-use messages::refusal::StepError;
-use model::host::Host;
+use messages::{CommandNumber, EpochNumber, FileNumber, GREATEST_NUMBER, StepError};
+use model::Host;
 use std::marker::Model;
 
 /// The commands to a node in one incarnation (from 1): the number of the last one sent (before the first, the epoch's

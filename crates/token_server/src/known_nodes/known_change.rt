@@ -1,11 +1,10 @@
 //! The change that an event makes of what a token server knows of one node.
 ghost use Rattle.std.specs.Prelude.{◌≡◌};
-ghost use Rattle.token_server.specs.code.Changes.{dropped_to, dead_after, may_bar};
+ghost use Rattle.token_server.specs.code.Rows.{dropped_to, dead_after, may_bar};
 
 use intervals::span::Span;
-use messages::token_run::TokenRuns;
-use model::host::Host;
-use model::mode::Mode;
+use messages::TokenRuns;
+use model::{Host, Mode};
 
 /// The change that an event makes of what a server knows of one node.
 #[derive(Drop)]

@@ -4,26 +4,19 @@ ghost use Rattle.std.specs.Prelude.{◌≡◌, ◌+◌, ◌<◌, ◌≤◌, ◌�
 ghost use Rattle.std.specs.Option.{option_copied};
 ghost use Rattle.intervals.specs.rule.Search.{some_passes};
 ghost use Rattle.model.specs.rule.Limits.{IsNumber, most_nodes};
-ghost use Rattle.messages.specs.rule.Epochs.{before_epoch};
-ghost use Rattle.messages.specs.rule.Parts.{members_state};
+ghost use Rattle.messages.specs.rule.Shapes.{before_epoch};
+ghost use Rattle.messages.specs.rule.Members.{members_state};
 ghost use Rattle.token_server.specs.rule.Rows.{is_awaited, outstanding_to, row_of_incarnation};
-ghost use Rattle.token_server.specs.code.Rebuilds.{rebuilt_rows, rebuilt_dead, AreRebuilt};
+ghost use Rattle.token_server.specs.code.Rows.{rebuilt_rows, rebuilt_dead, AreRebuilt, rows_after, deaths_after, seen, rows_overlaid, deaths_overlaid, NoneExclusive};
 ghost use Rattle.token_server.specs.rule.RowParts.{row_seen, row_state, known_node_at, rows_of, deaths_of, SameKnownNodes};
-ghost use Rattle.token_server.specs.code.Changes.{rows_after, deaths_after};
-ghost use Rattle.token_server.specs.code.RowEdits.{seen, rows_overlaid, deaths_overlaid};
-ghost use Rattle.token_server.specs.code.Marks.{NoneExclusive};
 
 use crate::known_nodes::known_change::Changed;
 use crate::known_nodes::known_node::KnownNode;
 use crate::known_nodes::new_row::NewRow;
 use crate::known_nodes::row_edit::RowEdit;
 use crate::known_nodes::token_holder::{RowView, TokenHolder};
-use messages::epoch_number::EpochNumber;
-use messages::file_number::FileNumber;
-use messages::members::Members;
-use messages::sends::Sends;
-use messages::shape::Shape;
-use model::host::Host;
+use messages::{EpochNumber, FileNumber, Members, Sends, Shape};
+use model::Host;
 use std::alloc::{AllocError, Global};
 use std::marker::Model;
 
@@ -48,7 +41,7 @@ impl Model for KnownNodes {
 
     ghost use Rattle.std.specs.Prelude.{◌≡◌, false};
     ghost use Rattle.token_server.specs.rule.RowParts.{rows_of};
-    ghost use Rattle.token_server.specs.code.Marks.{NoneExclusive};
+    ghost use Rattle.token_server.specs.code.Rows.{NoneExclusive};
 
     ghost invariant = { λ c. c.may_exclude ≡ false → NoneExclusive (rows_of c.nodes.items) };
 }

@@ -5,7 +5,7 @@ ghost use Rattle.model.specs.declared.mode.Mode.TheVariants.{Read};
 ghost use Rattle.token_server.specs.rule.Rows.{row_conflicts};
 ghost use Rattle.token_server.specs.rule.RowParts.{row_seen};
 ghost use Rattle.token_server.specs.declared.known_nodes.token_holder.TokenHolder.{TokenHolder};
-ghost use Rattle.token_server.specs.code.RowEdits.{seen_row, row_kept};
+ghost use Rattle.token_server.specs.code.Rows.{seen_row, row_kept};
 
 use crate::known_nodes::known_node::KnownNode;
 use crate::known_nodes::row_edit::RowAfter;

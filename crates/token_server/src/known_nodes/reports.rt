@@ -1,12 +1,11 @@
 //! Tokens that nodes report to a token server that was rebuilt.
 ghost use Rattle.std.specs.Prelude.{◌≡◌, IfOk};
 ghost use Rattle.token_set.specs.rule.Tokens.{token_of};
-ghost use Rattle.messages.specs.rule.Reports.{reported};
-ghost use Rattle.token_server.specs.code.Rebuilds.{mode_of};
+ghost use Rattle.messages.specs.rule.Messages.{reported};
+ghost use Rattle.token_server.specs.code.Rows.{mode_of};
 
-use messages::token_run::TokenRuns;
-use model::level::Level;
-use model::mode::Mode;
+use messages::TokenRuns;
+use model::{Level, Mode};
 use std::alloc::{AllocError, Global};
 use token_set::set::TokenSet;
 

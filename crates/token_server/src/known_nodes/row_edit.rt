@@ -5,7 +5,7 @@ ghost use Rattle.model.specs.declared.mode.Mode.TheVariants.{Read};
 ghost use Rattle.token_server.specs.rule.Rows.{row_conflicts};
 ghost use Rattle.token_server.specs.rule.RowParts.{row_seen};
 ghost use Rattle.token_server.specs.declared.known_nodes.token_holder.TokenHolder.{TokenHolder};
-ghost use Rattle.token_server.specs.code.RowEdits.{seen_row, row_with, row_kept, row_promised};
+ghost use Rattle.token_server.specs.code.Rows.{seen_row, row_with, row_kept, row_promised};
 
 use crate::known_nodes::commands::Commands;
 use crate::known_nodes::new_row::NewRow;

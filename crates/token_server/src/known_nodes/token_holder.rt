@@ -1,14 +1,13 @@
 //! The row of a node at a token server.
 ghost use Rattle.std.specs.Prelude.{◌≡◌, ◌↔◌, IsTrue, IfOk};
 ghost use Rattle.intervals.specs.rule.Bytes.{whole};
-ghost use Rattle.token_set.specs.rule.Tokens.{conflicts};
-ghost use Rattle.token_set.specs.rule.Tokens.{token_of};
+ghost use Rattle.token_set.specs.rule.Tokens.{conflicts, token_of};
 ghost use Rattle.token_server.specs.rule.RowParts.{SameRow, row_state};
-ghost use Rattle.token_server.specs.code.RowEdits.{seen};
+ghost use Rattle.token_server.specs.code.Rows.{seen};
 
 use crate::known_nodes::commands::Commands;
 use intervals::span::{GREATEST, Span};
-use model::mode::Mode;
+use model::Mode;
 use std::alloc::AllocError;
 use token_set::set::TokenSet;
 use token_set::view::TokenView;

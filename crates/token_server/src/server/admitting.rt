@@ -3,11 +3,9 @@ ghost use Rattle.std.specs.Prelude.{◌≡◌, ◌+◌, ◌<◌, ◌≤◌, ◌+
 ghost use Rattle.token_server.specs.rule.Requests.{meets, requests_in};
 ghost use Rattle.token_server.specs.rule.Actives.{requests_of};
 ghost use Rattle.token_server.specs.rule.Serve.{meets_some};
-ghost use Rattle.token_server.specs.code.Admitting.{IsAdmitted};
+ghost use Rattle.token_server.specs.code.Admissions.{IsAdmitted};
 ghost use Rattle.token_server.specs.rule.Obstacles.{all_stay};
-ghost use Rattle.token_server.specs.code.Ready.{AreDistinct};
-ghost use Rattle.token_server.specs.code.Sketches.{without, still_active, queue_moved};
-ghost use Rattle.token_server.specs.code.Comes.{served_on, left_in, NeedsAllOf, HasEnded};
+ghost use Rattle.token_server.specs.code.Edits.{AreDistinct, without, still_active, queue_moved, served_on, left_in, NeedsAllOf, HasEnded};
 
 use super::Server;
 use crate::gone::Gone;
@@ -17,7 +15,7 @@ use crate::token_queue::active_request::ActiveRequest;
 use crate::token_queue::line::Line;
 use crate::token_queue::token_request::TokenRequest;
 use intervals::span::Span;
-use model::call::CallId;
+use model::CallId;
 use std::alloc::{AllocError, Global};
 
 impl Server {

@@ -2,17 +2,15 @@
 ghost use Rattle.std.specs.Prelude.{◌≡◌, ◌==◌, ◌+◌, ◌<◌, ◌≤◌, true, false, All, MatchOption, Some, None};
 ghost use Rattle.token_server.specs.rule.Actives.{requests_of};
 ghost use Rattle.token_server.specs.rule.Serve.{narrowed};
-ghost use Rattle.token_server.specs.code.Sent.{bars};
-ghost use Rattle.token_server.specs.code.Told.{cut, cut_all};
-ghost use Rattle.token_server.specs.code.Sketches.{without, still_active};
-ghost use Rattle.token_server.specs.code.Edits.{keeps};
+ghost use Rattle.token_server.specs.code.Rows.{bars};
+ghost use Rattle.token_server.specs.code.Edits.{cut, cut_all, without, still_active, keeps};
 
 use crate::change::ServerEdit;
 use crate::sent_command::SentCommand;
 use crate::token_queue::active_request::ActiveRequest;
 use crate::token_queue::token_request::TokenRequest;
 use intervals::span::Span;
-use model::mode::Mode;
+use model::Mode;
 
 // `required`, widened inside `within` until it meets `other`.
 fn cut(required: Span, within: Span, other: Span) -> Span

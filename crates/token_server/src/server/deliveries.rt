@@ -9,7 +9,7 @@ ghost use Rattle.token_server.specs.rule.Resends.{outstanding};
 ghost use Rattle.token_server.specs.rule.Rows.{revoked_mode};
 ghost use Rattle.token_server.specs.rule.Server.{asked, row_of_host, freed, taken, released, in_conflict, heard, delivered, is_server};
 ghost use Rattle.token_server.specs.rule.Parts.{server_state};
-ghost use Rattle.token_server.specs.code.Sketches.{is_answer, moved_for, sketched};
+ghost use Rattle.token_server.specs.code.Edits.{is_answer, moved_for, sketched};
 
 use super::Server;
 use crate::known_nodes::commands::before_epoch;
@@ -18,14 +18,8 @@ use crate::known_nodes::server_command::ServerCommand;
 use crate::sketch::{Moved, Sketch};
 use crate::token_queue::token_request::TokenRequest;
 use intervals::span::Span;
-use messages::actor::Actor;
-use messages::command_number::CommandNumber;
-use messages::message::{Blocking, Message};
-use messages::token_run::TokenRuns;
-use model::call::CallId;
-use model::host::Host;
-use model::lock_info::LockInfo;
-use model::mode::Mode;
+use messages::{Actor, Blocking, CommandNumber, Message, TokenRuns};
+use model::{CallId, Host, LockInfo, Mode};
 use std::alloc::{AllocError, Global};
 
 impl Server {

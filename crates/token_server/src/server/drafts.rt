@@ -8,20 +8,15 @@ ghost use Rattle.token_server.specs.rule.Serve.{serve};
 ghost use Rattle.token_server.specs.rule.Resends.{sending_first};
 ghost use Rattle.token_server.specs.rule.RowParts.{rows_of};
 ghost use Rattle.token_server.specs.rule.Parts.{server_state};
-ghost use Rattle.token_server.specs.code.Ready.{IsOrderly};
-ghost use Rattle.token_server.specs.code.Changes.{rows_after};
-ghost use Rattle.token_server.specs.code.Sketches.{dropped, without, sketched};
-ghost use Rattle.token_server.specs.code.RowEdits.{rows_overlaid};
-ghost use Rattle.token_server.specs.code.Edits.{reached, planned, IsDrafted, Fits};
+ghost use Rattle.token_server.specs.code.Edits.{IsOrderly, dropped, without, sketched, reached, planned, IsDrafted, Fits};
+ghost use Rattle.token_server.specs.code.Rows.{rows_after, rows_overlaid};
 
 use super::Server;
 use crate::change::{ServerChange, ServerEdit};
 use crate::gone::Gone;
 use crate::known_nodes::row_edit::RowEdit;
 use crate::sketch::{Moved, Sketch};
-use messages::outcome::Outcome;
-use messages::refusal::StepError;
-use messages::sends::Sends;
+use messages::{Outcome, Sends, StepError};
 use std::alloc::{AllocError, Global};
 
 impl Server {

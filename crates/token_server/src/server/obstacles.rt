@@ -8,11 +8,9 @@ ghost use Rattle.token_server.specs.rule.Rows.{Row, row_conflicts};
 ghost use Rattle.token_server.specs.rule.Serve.{conflicting_node};
 ghost use Rattle.token_server.specs.rule.RowParts.{rows_of};
 ghost use Rattle.token_server.specs.rule.Parts.{server_state};
-ghost use Rattle.token_server.specs.code.Changes.{may_bar, rows_after};
-ghost use Rattle.token_server.specs.code.Obstacles.{is_dropped, frees, may_turn};
+ghost use Rattle.token_server.specs.code.Rows.{may_bar, rows_after, NoneExclusive, rows_overlaid};
+ghost use Rattle.token_server.specs.code.Admissions.{is_dropped, frees, may_turn};
 ghost use Rattle.token_server.specs.rule.Obstacles.{obstacle};
-ghost use Rattle.token_server.specs.code.Marks.{NoneExclusive};
-ghost use Rattle.token_server.specs.code.RowEdits.{rows_overlaid};
 ghost use Rattle.token_server.specs.code.Edits.{reached};
 
 use super::Server;
@@ -21,7 +19,7 @@ use crate::known_nodes::known_change::{Changed, KnownChange};
 use crate::known_nodes::row_edit::RowEdit;
 use crate::token_queue::active_request::ActiveRequest;
 use crate::token_queue::token_request::TokenRequest;
-use model::mode::Mode;
+use model::Mode;
 use std::alloc::{AllocError, Global};
 
 impl Server {

@@ -11,10 +11,7 @@ use crate::change::ServerChange;
 use crate::event::ServerEvent;
 use crate::known_nodes::known_change::KnownChange;
 use crate::sketch::{Moved, Sketch};
-use messages::event::ServerInput;
-use messages::message::Message;
-use messages::refusal::StepError;
-use messages::sends::Sends;
+use messages::{Message, Sends, ServerInput, StepError};
 use std::alloc::{AllocError, Global};
 
 impl Server {

@@ -7,7 +7,7 @@ ghost use Rattle.token_server.specs.rule.Rows.{is_awaited};
 ghost use Rattle.token_server.specs.rule.Obstacles.{obstacle, is_idle};
 ghost use Rattle.token_server.specs.rule.RowParts.{row_state};
 ghost use Rattle.token_server.specs.rule.Parts.{server_state};
-ghost use Rattle.token_server.specs.code.Readers.{nodes_where, Shows, IsRow};
+ghost use Rattle.token_server.specs.code.Rows.{nodes_where, Shows, IsRow};
 
 use super::Server;
 use crate::known_nodes::token_holder::TokenHolder;

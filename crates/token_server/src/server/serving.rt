@@ -1,17 +1,13 @@
 //! How a token server serves its active requests: which commands it sends.
 ghost use Rattle.std.specs.Prelude.{◌≡◌, ◌==◌, ◌≢◌, ℕ, ◌+◌, ◌<◌, ◌≤◌, ◌++◌, true, false, length, IfSome, All, IfOk, IfErr, OnOk, OnSome, slice_index_or, Some, None, Ok, Err};
 ghost use Rattle.std.specs.Option.{option_map, option_to_list};
-ghost use Rattle.messages.specs.rule.Epochs.{before_epoch};
+ghost use Rattle.messages.specs.rule.Shapes.{before_epoch};
 ghost use Rattle.token_server.specs.rule.Serve.{narrowed, granted_span, served, each_served, serve};
-ghost use Rattle.token_server.specs.code.Told.{row_told, with_told, commands_told};
+ghost use Rattle.token_server.specs.code.Edits.{row_told, with_told, commands_told, AreOfEpoch, commands_of, sketched, keeps, held_after, drafted, with_given, IsDrafted, IsServed, kept_of, IsTurn, AreServed};
 ghost use Rattle.token_server.specs.rule.Obstacles.{obstacle, are_apart, is_idle};
 ghost use Rattle.token_server.specs.rule.RowParts.{known_node_at};
 ghost use Rattle.token_server.specs.rule.Parts.{server_state};
-ghost use Rattle.token_server.specs.code.Ready.{AreOfEpoch};
-ghost use Rattle.token_server.specs.code.Sketches.{commands_of, sketched};
-ghost use Rattle.token_server.specs.code.RowEdits.{rows_overlaid, given_to_known_node, given_of};
-ghost use Rattle.token_server.specs.code.Edits.{keeps, held_after, drafted, with_given, IsDrafted, IsServed};
-ghost use Rattle.token_server.specs.code.Turns.{kept_of, IsTurn, AreServed};
+ghost use Rattle.token_server.specs.code.Rows.{rows_overlaid, given_to_known_node, given_of};
 
 use super::{Server, commands_told};
 use crate::change::ServerEdit;
@@ -22,11 +18,8 @@ use crate::sent_command::{SentCommand, told_to};
 use crate::sketch::Sketch;
 use crate::token_queue::active_request::ActiveRequest;
 use crate::token_queue::token_request::TokenRequest;
-use messages::command_number::CommandNumber;
-use messages::refusal::StepError;
-use messages::sends::Sends;
-use messages::wanted::Wanted;
-use model::host::Host;
+use messages::{CommandNumber, Sends, StepError, Wanted};
+use model::Host;
 use std::alloc::{AllocError, Global};
 
 mod spans;

@@ -5,12 +5,11 @@ ghost use Rattle.std.specs.List.{count_by, remove};
 ghost use Rattle.std.specs.Vec.{vec_capacity};
 ghost use Rattle.token_server.specs.rule.Requests.{is_of_call, is_up_to};
 ghost use Rattle.token_server.specs.rule.Actives.{requests_of, waiting_for};
-ghost use Rattle.token_server.specs.code.Ready.{AreDistinct};
-ghost use Rattle.token_server.specs.code.Edits.{held_still, held_without, HeldHasRoom};
+ghost use Rattle.token_server.specs.code.Edits.{AreDistinct, held_still, held_without, HeldHasRoom};
 
 use crate::token_queue::active_request::ActiveRequest;
 use crate::token_queue::token_request::TokenRequest;
-use model::call::CallId;
+use model::CallId;
 use std::alloc::{AllocError, Global};
 use std::marker::Model;
 

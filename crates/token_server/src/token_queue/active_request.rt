@@ -3,7 +3,7 @@ ghost use Rattle.std.specs.Prelude.{◌≡◌};
 ghost use Rattle.token_server.specs.rule.Requests.{is_of_call, is_up_to};
 
 use crate::token_queue::token_request::TokenRequest;
-use model::call::CallId;
+use model::CallId;
 
 /// An active request of a token server, and the number of the node whose row it waits for.
 #[derive(Clone, Copy)]

@@ -2,13 +2,12 @@
 //! `AllocError` where a request for memory was refused.
 ghost use Rattle.std.specs.Prelude.{◌≡◌, ◌↔◌, ℕ, ◌+◌, ◌-◌, ◌<◌, ◌≤◌, ◌^◌, ◌++◌, ◌∷◌, [], not, filter, find, drop, length, slice_get, None, IfOk, IsTrue};
 ghost use Rattle.token_server.specs.rule.Requests.{is_of_call, requests_in, AreOfDistinctCalls};
-ghost use Rattle.token_server.specs.code.Sketches.{without};
-ghost use Rattle.token_server.specs.code.Edits.{HasRoom};
+ghost use Rattle.token_server.specs.code.Edits.{without, HasRoom};
 
 use crate::token_queue::slots::Slots;
 use crate::token_queue::token_request::TokenRequest;
 use crate::token_queue::walk::{first_from, same_requests};
-use model::call::CallId;
+use model::CallId;
 use std::alloc::{AllocError, Global};
 use std::marker::Model;
 
@@ -25,7 +24,7 @@ pub struct Line {
 
 impl Model for Line {
     ghost use Rattle.token_server.specs.rule.Requests.{LineParts, requests_in};
-    ghost use Rattle.token_server.specs.code.Places.{IsFront};
+    ghost use Rattle.token_server.specs.code.Admissions.{IsFront};
 
     ghost Value = { LineParts };
 

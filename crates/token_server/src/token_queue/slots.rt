@@ -2,11 +2,11 @@
 //! `AllocError` where a request for memory was refused.
 ghost use Rattle.std.specs.Prelude.{◌≡◌, ◌+◌, ◌<◌, ◌≤◌, ◌^◌, ◌++◌, ◌∷◌, [], List, map, find, length, None, Some, IfOk, IsSome};
 ghost use Rattle.token_server.specs.rule.Requests.{is_of_call, requests_in, AreOfDistinctCalls};
-ghost use Rattle.token_server.specs.code.Places.{unless};
+ghost use Rattle.token_server.specs.code.Admissions.{unless};
 
 use crate::token_queue::token_request::TokenRequest;
 use indexmap::IndexMap;
-use model::call::CallId;
+use model::CallId;
 use std::alloc::{AllocError, Global};
 use std::marker::Model;
 
@@ -22,7 +22,7 @@ impl Model for Slots {
     ghost use Rattle.std.specs.Prelude.{◌+◌, ◌≤◌, length};
     ghost use Rattle.std.specs.Vec.{vec_capacity};
     ghost use Rattle.indexmap.specs.IndexMap.{spare};
-    ghost use Rattle.token_server.specs.code.Places.{SlotParts, ArePlaced};
+    ghost use Rattle.token_server.specs.code.Admissions.{SlotParts, ArePlaced};
 
     ghost Value = { SlotParts };
 

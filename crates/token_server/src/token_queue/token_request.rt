@@ -3,10 +3,8 @@ ghost use Rattle.std.specs.Prelude.{◌≡◌, ◌≤◌, ◌==◌};
 ghost use Rattle.token_server.specs.rule.Requests.{is_of_call, is_up_to, meets};
 
 use intervals::span::Span;
-use messages::message::Blocking;
-use messages::wanted::Wanted;
-use model::call::CallId;
-use model::mode::Mode;
+use messages::{Blocking, Wanted};
+use model::{CallId, Mode};
 
 /// A request for a token: the call that asks, whether it waits, its mode, and the bytes.
 #[derive(Clone, Copy, PartialEq, Eq)]

@@ -1,7 +1,7 @@
 //! Walks over the slots of a line.
 ghost use Rattle.std.specs.Prelude.{◌≡◌, ◌↔◌, ◌<◌, ◌≤◌, IsTrue, length, drop, is_some, true};
 ghost use Rattle.token_server.specs.rule.Requests.{requests_in};
-ghost use Rattle.token_server.specs.code.Places.{request_at};
+ghost use Rattle.token_server.specs.code.Admissions.{request_at};
 
 use crate::token_queue::token_request::TokenRequest;
 

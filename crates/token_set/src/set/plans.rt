@@ -1,9 +1,7 @@
 //! The planned changes of a token, and the token after one.
 ghost use Rattle.std.specs.Prelude.{◌≡◌, ◌<◌, true, Some, None, IfOk};
 ghost use Rattle.intervals.specs.code.Edits.{written};
-ghost use Rattle.token_set.specs.rule.Tokens.{covers, raised, conflicts};
-ghost use Rattle.token_set.specs.rule.Tokens.{token_of};
-ghost use Rattle.token_set.specs.rule.Releases.{lowered, after_giving_up};
+ghost use Rattle.token_set.specs.rule.Tokens.{covers, raised, conflicts, token_of, lowered, after_giving_up};
 ghost use Rattle.token_set.specs.code.Edits.{edited};
 
 use super::{TokenSet, is_served, shared, unexclusive};
@@ -12,8 +10,7 @@ use crate::gave_up::GaveUp;
 use intervals::span::Span;
 use intervals::span_edit::SpanEdit;
 use intervals::span_map::SpanMap;
-use model::level::Level;
-use model::mode::Mode;
+use model::{Level, Mode};
 use std::alloc::AllocError;
 
 impl TokenSet {

@@ -1,20 +1,17 @@
 //! What is read of a token.
 ghost use Rattle.std.specs.Prelude.{◌≡◌, ◌≤◌, ◌<◌, ℕ, true, false, Some, None, IfOk};
 ghost use Rattle.intervals.specs.rule.Bytes.{greatest, IsLargest, NoneIn, largest_around};
-ghost use Rattle.token_set.specs.rule.Tokens.{covers, conflicts, level_conflicts, holds_nothing};
-ghost use Rattle.token_set.specs.code.Sets.{bar_of};
-ghost use Rattle.token_set.specs.rule.Tokens.{token_of};
+ghost use Rattle.token_set.specs.rule.Tokens.{covers, conflicts, level_conflicts, holds_nothing, token_of};
+ghost use Rattle.token_set.specs.code.Sets.{bar_of, ListsRuns};
 ghost use Rattle.token_set.specs.code.Edits.{edited};
 ghost use Rattle.token_set.specs.code.Views.{viewed};
-ghost use Rattle.token_set.specs.code.Runs.{ListsRuns};
 
 use super::{TokenSet, bar_of, has_levels, run_from};
 use crate::edit::TokenEdit;
 use crate::view::TokenView;
 use intervals::span::Span;
 use intervals::span_map::SpanMap;
-use model::level::Level;
-use model::mode::Mode;
+use model::{Level, Mode};
 use std::alloc::{AllocError, Global};
 
 impl TokenSet {

@@ -3,7 +3,7 @@ use Rattle.std.proofs.lemmas.Option.{slice_get_read, slice_get_within}
 use Rattle.std.proofs.lemmas.Result.{IfOk-weaker}
 use Rattle.client_history.specs.declared.search_front.SearchFront.{SearchFront}
 use Rattle.client_history.specs.declared.open_client_call.OpenClientCall.{OpenClientCall}
-use Rattle.client_history.specs.code.Steps.{HasNext, GoesOnFrom}
+use Rattle.client_history.specs.code.Search.{HasNext, GoesOnFrom}
 use Rattle.client_history.proofs.Goings.{next_of_copy, next_of_more, goes_on_from}
 use Rattle.client_history.proofs.Orders.{last_place, get_one}
 use Rattle.client_history.proofs.Standing.{has_push}

@@ -1,6 +1,6 @@
 use Rattle.std.proofs.Common.{◌≡◌, ℕ, ◌<◌, slice_get, Some}
 use Rattle.client_history.specs.declared.open_client_call.OpenClientCall.{OpenClientCall}
-use Rattle.client_history.specs.code.Steps.{HasAll, HasNext}
+use Rattle.client_history.specs.code.Search.{HasAll, HasNext}
 use Rattle.client_history.proofs.call_ending.branch.Given as goal
 
 abbrev pub invariant-loop-call : goal.invariant-loop-call

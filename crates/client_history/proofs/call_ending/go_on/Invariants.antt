@@ -1,7 +1,6 @@
 use Rattle.std.proofs.Common.{◌≡◌, ℕ, ◌<◌, ◌≤◌, ◌⊎◌, List, length, vec_len}
 use Rattle.client_history.specs.declared.client_call.ClientCall.{ClientCall}
-use Rattle.client_history.specs.code.Search.{IsCovered}
-use Rattle.client_history.specs.code.Steps.{IsEnding, AreTaken}
+use Rattle.client_history.specs.code.Search.{IsCovered, IsEnding, AreTaken}
 use Rattle.client_history.proofs.call_ending.go_on.Given as goal
 
 abbrev pub decreases-loop-front : goal.decreases-loop-front

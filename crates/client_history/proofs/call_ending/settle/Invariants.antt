@@ -1,7 +1,6 @@
 use Rattle.std.proofs.Common.{ℕ, ◌<◌, ◌⊎◌, List}
 use Rattle.client_history.specs.declared.client_call.ClientCall.{ClientCall}
-use Rattle.client_history.specs.code.Search.{IsCovered}
-use Rattle.client_history.specs.code.Steps.{IsEnding, AreTaken}
+use Rattle.client_history.specs.code.Search.{IsCovered, IsEnding, AreTaken}
 use Rattle.client_history.proofs.call_ending.settle.Given as goal
 
 abbrev pub decreases-loop-left : goal.decreases-loop-left

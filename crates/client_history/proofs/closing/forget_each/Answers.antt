@@ -1,7 +1,7 @@
 use Rattle.std.proofs.Common.{length, refl, sym, subst, ◌<◌}
 use Rattle.std.proofs.lemmas.Option.{slice_get_read}
 use Rattle.client_history.specs.declared.search_front.SearchFront.{SearchFront}
-use Rattle.client_history.specs.code.Closings.{HasForgotten}
+use Rattle.client_history.specs.code.Search.{HasForgotten}
 use Rattle.client_history.proofs.Standing.{each_none, each_more, each_all}
 use Rattle.client_history.proofs.closing.forget_each.Goals as goal
 

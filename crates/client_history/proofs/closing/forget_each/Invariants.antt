@@ -1,4 +1,4 @@
-use Rattle.client_history.specs.code.Closings.{HasForgotten}
+use Rattle.client_history.specs.code.Search.{HasForgotten}
 use Rattle.client_history.proofs.Standing.{EachTo}
 use Rattle.client_history.proofs.closing.forget_each.Given as goal
 

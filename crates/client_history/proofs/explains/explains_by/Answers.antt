@@ -2,7 +2,7 @@ use Rattle.std.proofs.Common.{◌↔◌, IsTrue, sym, subst, ◌∙◌, length}
 use Rattle.std.proofs.lemmas.Bool.{false≢true}
 use Rattle.std.proofs.lemmas.Result.{IfOk-weaker}
 use Rattle.client_history.specs.rule.Explained.{IsLegal, IsExplainedBy}
-use Rattle.client_history.specs.code.Marks.{AreMarks}
+use Rattle.client_history.specs.code.Moves.{AreMarks}
 use Rattle.client_history.proofs.Parts.{within_explained, answered, are_marked}
 use Rattle.client_history.proofs.explains.explains_by.Goals as goal
 

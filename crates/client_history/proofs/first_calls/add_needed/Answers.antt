@@ -3,8 +3,7 @@ use Rattle.std.proofs.lemmas.Bool.{false≢true}
 use Rattle.std.proofs.lemmas.Option.{slice_get_read}
 use Rattle.lock_table.specs.rule.Tables.{held}
 use Rattle.client_history.specs.declared.open_client_call.OpenClientCall.{OpenClientCall}
-use Rattle.client_history.specs.code.ClosedSets.{IsNeeded}
-use Rattle.client_history.specs.code.OpenCalls.{IsLeft, IsIn, IsLeftOf}
+use Rattle.client_history.specs.code.OpenCalls.{IsNeeded, IsLeft, IsIn, IsLeftOf}
 use Rattle.client_history.proofs.SetLaws.{below_more, below_all, grown_more, in_grown, served_by}
 use Rattle.client_history.proofs.first_calls.add_needed.Goals as goal
 use Rattle.client_history.proofs.first_calls.add_needed.Goals.{then-needs+then-is_left+in_ok-add, else-needs, else-needs-via-then-needs+else-is_left, else-needs-via-else-needs}

@@ -1,6 +1,5 @@
 use Rattle.client_history.specs.declared.open_client_call.OpenClientCall.{OpenClientCall}
-use Rattle.client_history.specs.code.ClosedSets.{IsGrown, IsNeeded}
-use Rattle.client_history.specs.code.OpenCalls.{IsLeft, IsIn, IsLeftOf}
+use Rattle.client_history.specs.code.OpenCalls.{IsGrown, IsNeeded, IsLeft, IsIn, IsLeftOf}
 use Rattle.client_history.proofs.SetLaws.{Below}
 use Rattle.client_history.proofs.first_calls.add_needed.Given as goal
 

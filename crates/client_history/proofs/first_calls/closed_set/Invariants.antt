@@ -2,8 +2,7 @@ use Rattle.std.proofs.Common.{◌≡◌, ◌-◌, [], length}
 use Rattle.lock_table.specs.rule.Tables.{held}
 use Rattle.client_history.specs.declared.client_call.ClientCall.{ClientCall}
 use Rattle.client_history.specs.declared.open_client_call.OpenClientCall.{OpenClientCall}
-use Rattle.client_history.specs.code.ClosedSets.{IsGrown}
-use Rattle.client_history.specs.code.OpenCalls.{IsIn, IsLeftOf, AreAsked}
+use Rattle.client_history.specs.code.OpenCalls.{IsGrown, IsIn, IsLeftOf, AreAsked}
 use Rattle.client_history.proofs.SetLaws.{Below, IsServedAt}
 use Rattle.client_history.proofs.first_calls.closed_set.Given as goal
 

@@ -3,8 +3,7 @@ use Rattle.std.proofs.lemmas.Bool.{false≢true}
 use Rattle.std.proofs.lemmas.Option.{slice_get_read}
 use Rattle.lock_table.specs.rule.Tables.{held}
 use Rattle.client_history.specs.declared.open_client_call.OpenClientCall.{OpenClientCall}
-use Rattle.client_history.specs.code.FirstCalls.{IsServed}
-use Rattle.client_history.specs.code.OpenCalls.{IsLeft, IsIn, IsLeftOf}
+use Rattle.client_history.specs.code.OpenCalls.{IsServed, IsLeft, IsIn, IsLeftOf}
 use Rattle.client_history.proofs.SetLaws.{below_more, below_all, grown_more, in_grown, served_more}
 use Rattle.client_history.proofs.first_calls.serve.Goals as goal
 use Rattle.client_history.proofs.first_calls.serve.Goals.{then-call-index+then-is_left+in_ok-add_needed, else-call-index, else-call-index-via-then-call-index+else-is_left, else-call-index-via-else-call-index}

@@ -1,9 +1,7 @@
 use Rattle.std.proofs.Common.{◌≡◌}
 use Rattle.lock_table.specs.rule.Tables.{held}
 use Rattle.client_history.specs.declared.open_client_call.OpenClientCall.{OpenClientCall}
-use Rattle.client_history.specs.code.ClosedSets.{IsGrown}
-use Rattle.client_history.specs.code.FirstCalls.{IsServed}
-use Rattle.client_history.specs.code.OpenCalls.{IsLeft, IsIn, IsLeftOf, AreAsked}
+use Rattle.client_history.specs.code.OpenCalls.{IsGrown, IsServed, IsLeft, IsIn, IsLeftOf, AreAsked}
 use Rattle.client_history.proofs.SetLaws.{Below}
 use Rattle.client_history.proofs.first_calls.serve.Given as goal
 

@@ -2,8 +2,7 @@ use Rattle.std.proofs.Common.{length, List, refl, subst, sym, ◌∙◌}
 use Rattle.std.proofs.lemmas.Bool.{false≢true}
 use Rattle.std.proofs.lemmas.Option.{slice_get_read}
 use Rattle.model.specs.declared.lock_info.LockInfo.{LockInfo}
-use Rattle.lock_table.specs.rule.Tables.{held}
-use Rattle.lock_table.specs.rule.Listing.{IsListing}
+use Rattle.lock_table.specs.rule.Tables.{held, IsListing}
 use Rattle.client_history.specs.rule.Explained.{the_file}
 use Rattle.client_history.proofs.Blocked.{none_more, none_enough, none_blocks, one_blocks}
 use Rattle.client_history.proofs.follow.any_denies.Goals as goal

@@ -1,4 +1,4 @@
-use Rattle.client_history.specs.code.Asked.{IsAsked}
+use Rattle.client_history.specs.code.Search.{IsAsked}
 use Rattle.client_history.proofs.Standing.{EachTo}
 use Rattle.client_history.proofs.front_list.ask_each.Given as goal
 

@@ -1,7 +1,7 @@
 use Rattle.std.proofs.Common.{◌≡◌, ℕ, sym, ap, subst, ◌∙◌}
 use Rattle.std.proofs.lemmas.Option.{same_Some, get_or_from_slice_get}
 use Rattle.client_history.specs.declared.client_call.ClientCall.{ClientCall}
-use Rattle.client_history.specs.rule.Verdicts.{AreExplainedBefore}
+use Rattle.client_history.specs.rule.Explained.{AreExplainedBefore}
 use Rattle.client_history.proofs.judge.unexplained.Goals as goal
 
 pub are_explained_before-requires : goal.are_explained_before-requires

@@ -1,7 +1,7 @@
 use Rattle.std.proofs.Common.{◌+◌, length, rules, refl, sym, subst}
 use Rattle.std.proofs.lemmas.List.Sorted.{IsNonDecreasingBy-from_sort_by_key}
 use Rattle.std.proofs.lemmas.Option.{slice_get_read}
-use Rattle.client_history.specs.code.Moments.{IsBeginOf}
+use Rattle.client_history.specs.code.Moves.{IsBeginOf}
 use Rattle.client_history.proofs.KnownCalls.{begins_itself}
 use Rattle.client_history.proofs.MomentLaws.{MomentsTo, moments_none, moments_more, moments_sorted, each_moment, all_moments, by_time}
 use Rattle.client_history.proofs.moment.begins_of.Goals as goal

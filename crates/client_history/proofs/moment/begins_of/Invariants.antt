@@ -1,5 +1,4 @@
-use Rattle.client_history.specs.code.Moments.{IsBeginOf}
-use Rattle.client_history.specs.code.Prefixes.{AreOrdered}
+use Rattle.client_history.specs.code.Moves.{IsBeginOf, AreOrdered}
 use Rattle.client_history.proofs.MomentLaws.{MomentsTo}
 use Rattle.client_history.proofs.moment.begins_of.Given as goal
 

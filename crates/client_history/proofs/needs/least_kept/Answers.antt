@@ -1,8 +1,7 @@
 use Rattle.std.proofs.Common.{List, sym, subst}
 use Rattle.model.specs.declared.lock_info.LockInfo.{LockInfo}
 use Rattle.model.specs.rule.Locks.{IsRegion}
-use Rattle.lock_table.specs.rule.Tables.{held}
-use Rattle.lock_table.specs.rule.Listing.{IsListing}
+use Rattle.lock_table.specs.rule.Tables.{held, IsListing}
 use Rattle.client_history.specs.rule.Explained.{the_file}
 use Rattle.client_history.proofs.needs.least_kept.Goals as goal
 use Rattle.client_history.proofs.needs.least_kept.Goals.{then-count-least, else-count-least}

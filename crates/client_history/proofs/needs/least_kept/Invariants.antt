@@ -3,7 +3,7 @@ use Rattle.std.specs.Prelude.{◌≢◌}
 use Rattle.model.specs.rule.Locks.{IsRegion, IsInWay}
 use Rattle.lock_table.specs.rule.Tables.{held}
 use Rattle.client_history.specs.rule.Explained.{the_file}
-use Rattle.client_history.specs.code.FirstCalls.{NeedsFree}
+use Rattle.client_history.specs.code.OpenCalls.{NeedsFree}
 use Rattle.client_history.proofs.needs.least_kept.Given as goal
 
 abbrev pub invariant-loop-lock : goal.invariant-loop-lock

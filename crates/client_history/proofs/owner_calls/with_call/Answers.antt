@@ -2,7 +2,7 @@ use Rattle.std.proofs.Common.{◌≡◌, ℕ, ◌⊎◌, max, refl, is_some, sym
 use Rattle.std.proofs.lemmas.Bool.{false≢true}
 use Rattle.std.proofs.lemmas.Option.{same_Some}
 use Rattle.client_history.specs.declared.owner_calls.OwnerFacts.{OwnerFacts}
-use Rattle.client_history.specs.code.OwnerCalls.{IsExitOfOwner, HasAnswerFrom}
+use Rattle.client_history.specs.code.OpenCalls.{IsExitOfOwner, HasAnswerFrom}
 use Rattle.client_history.proofs.KnownCalls.{latest_known}
 use Rattle.client_history.proofs.owner_calls.with_call.Goals as goal
 use Rattle.client_history.proofs.owner_calls.with_call.Goals.{then-call+then-is_none, else-call}

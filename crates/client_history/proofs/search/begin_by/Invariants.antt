@@ -1,5 +1,5 @@
 use Rattle.std.proofs.Common.{◌-◌, length}
-use Rattle.client_history.specs.code.Reached.{GoesTo}
+use Rattle.client_history.specs.code.Search.{GoesTo}
 use Rattle.client_history.proofs.search.begin_by.Given as goal
 
 abbrev pub decreases-loop-moment : goal.decreases-loop-moment

@@ -1,6 +1,6 @@
 use Rattle.std.proofs.Common.{◌≡◌, List, length, take, drop, ◌++◌, sym, ap, subst, ◌∙◌, arith}
 use Rattle.client_history.specs.declared.search_front.SearchFront.{SearchFront}
-use Rattle.client_history.specs.code.Reached.{GoesPast}
+use Rattle.client_history.specs.code.Search.{GoesPast}
 use Rattle.client_history.proofs.Ended.{goes_past, written_back}
 use Rattle.client_history.proofs.search.end.Goals as goal
 

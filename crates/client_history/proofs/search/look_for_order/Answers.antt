@@ -1,6 +1,6 @@
 use Rattle.std.proofs.Common.{length, get_or, take, drop, ◌++◌, sym, ap, ◌∙◌, eqb-true, arith}
 use Rattle.std.proofs.lemmas.Option.{slice_get-get_or}
-use Rattle.client_history.specs.code.Reached.{AreTimed}
+use Rattle.client_history.specs.code.Search.{AreTimed}
 use Rattle.client_history.proofs.Ended.{reached_first, reached_next, unexplained, written_back}
 use Rattle.client_history.proofs.search.look_for_order.Goals as goal
 

@@ -1,4 +1,4 @@
-use Rattle.client_history.specs.code.Reached.{AreTimed, IsReached}
+use Rattle.client_history.specs.code.Search.{AreTimed, IsReached}
 use Rattle.client_history.proofs.search.look_for_order.Given as goal
 
 abbrev pub invariant-loop-end_of : goal.invariant-loop-end_of

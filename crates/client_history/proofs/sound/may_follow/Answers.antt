@@ -1,7 +1,7 @@
 use Rattle.std.proofs.Common.{◌≡◌, ℕ, length, slice_get, Some, refl, sym, subst, ◌∙◌}
 use Rattle.std.proofs.lemmas.Bool.{false≢true}
 use Rattle.std.proofs.lemmas.Option.{same_Some, slice_get_read}
-use Rattle.client_history.specs.code.FirstCalls.{Changes}
+use Rattle.client_history.specs.code.OpenCalls.{Changes}
 use Rattle.client_history.proofs.Owners.{eq_exact}
 use Rattle.client_history.proofs.sound.may_follow.Goals as goal
 use Rattle.client_history.proofs.sound.may_follow.Goals.{then-eq, else-eq}

@@ -1,5 +1,5 @@
 use Rattle.std.proofs.Common.{◌≡◌, ◌+◌, ℕ, List, Some, length, refl, ap, sym, ◌∙◌}
-use Rattle.descriptors.specs.code.Counts.{count_of, references_below}
+use Rattle.descriptors.specs.code.Rows.{count_of, references_below}
 use Rattle.std.proofs.lemmas.List.{length-set}
 use Rattle.descriptors.specs.rule.Rows.{processes}
 use Rattle.descriptors.proofs.RowLaws.{opened-number}

@@ -1,6 +1,6 @@
 use Rattle.std.proofs.Common.{◌≡◌, ◌+◌, ℕ, length}
 use Rattle.descriptors.specs.rule.Rows.{processes}
-use Rattle.descriptors.specs.code.Counts.{count_of, references_below}
+use Rattle.descriptors.specs.code.Rows.{count_of, references_below}
 use Rattle.descriptors.proofs.counts.release.Given as goal
 
 abbrev pub invariant-loop-fd : goal.invariant-loop-fd

@@ -1,7 +1,7 @@
 use Rattle.std.proofs.Common.{◌≡◌, ◌<◌, ◌+◌, ℕ, List, Some, length, refl, ap, sym, subst, ◌∙◌}
 use Rattle.std.proofs.lemmas.List.{length-set}
 use Rattle.descriptors.specs.rule.Rows.{processes}
-use Rattle.descriptors.specs.code.Counts.{count_of, references_below}
+use Rattle.descriptors.specs.code.Rows.{count_of, references_below}
 use Rattle.descriptors.proofs.RowLaws.{opened-number}
 use Rattle.descriptors.proofs.CountLaws.{shared-more, shared-none, below-none, counted-place, descriptor-counted, shared-room, shared-some}
 use Rattle.descriptors.proofs.counts.share.Goals as goal

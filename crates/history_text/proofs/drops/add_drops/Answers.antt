@@ -1,7 +1,7 @@
 use Rattle.std.proofs.Common.{◌≡◌, length, refl, arith}
 use Rattle.std.proofs.lemmas.Result.{on_ok_weaker}
-use Rattle.history_text.specs.code.Drops.{with_told}
-use Rattle.history_text.proofs.DropLaws.{adds_both, adds_none}
+use Rattle.history_text.specs.code.Readings.{with_told}
+use Rattle.history_text.proofs.FileLaws.{adds_both, adds_none}
 use Rattle.history_text.proofs.drops.add_drops.Goals as goal
 
 pub loop-loss-init : goal.loop-loss-init

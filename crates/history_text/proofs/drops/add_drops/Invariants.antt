@@ -1,8 +1,7 @@
 use Rattle.std.proofs.Common.{ℕ}
 use Rattle.std.specs.List.{All}
 use Rattle.history_text.specs.declared.rule.Allowed.{Allowed}
-use Rattle.history_text.specs.code.Drops.{Adds, with_told}
-use Rattle.history_text.specs.rule.Losses.{IsLoss}
+use Rattle.history_text.specs.code.Readings.{Adds, with_told, IsLoss}
 use Rattle.history_text.proofs.drops.add_drops.Given as goal
 
 abbrev pub invariant-loop-loss : goal.invariant-loop-loss

@@ -1,6 +1,6 @@
 use Rattle.std.proofs.Common.{refl, sym, subst}
-use Rattle.history_text.specs.code.Drops.{Adds}
-use Rattle.history_text.proofs.DropLaws.{adds_none, adds_push, loss_call}
+use Rattle.history_text.specs.code.Readings.{Adds}
+use Rattle.history_text.proofs.FileLaws.{adds_none, adds_push, loss_call}
 use Rattle.history_text.proofs.drops.add_loss.Goals as goal
 use Rattle.history_text.proofs.drops.add_loss.Goals.{in-Some+in_ok-push, in_default}
 

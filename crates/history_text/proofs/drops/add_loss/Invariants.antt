@@ -1,7 +1,6 @@
 use Rattle.std.proofs.Common.{ℕ}
 use Rattle.history_text.specs.declared.rule.Allowed.{Allowed}
-use Rattle.history_text.specs.code.Drops.{Adds}
-use Rattle.history_text.specs.rule.Losses.{IsLoss}
+use Rattle.history_text.specs.code.Readings.{Adds, IsLoss}
 use Rattle.history_text.proofs.drops.add_loss.Given as goal
 
 abbrev pub invariant-loop-owner : goal.invariant-loop-owner

@@ -1,8 +1,8 @@
-use Rattle.std.proofs.Common.{◌≡◌, ◌<◌, List, length, take, refl, subst, arith}
+use Rattle.std.proofs.Common.{◌<◌, List, length, take, refl, subst, arith}
 use Rattle.std.proofs.lemmas.List.{take_all}
 use Rattle.history_text.specs.declared.file_calls.FileCalls.{FileCalls}
-use Rattle.history_text.specs.code.Drops.{AreEndedOf}
-use Rattle.history_text.proofs.EndLaws.{count_more, ended_more, ended_none, rest_more, same_file}
+use Rattle.history_text.specs.code.Readings.{AreEndedOf}
+use Rattle.history_text.proofs.FileLaws.{count_more, ended_more, ended_none, rest_more, same_file}
 use Rattle.history_text.proofs.files.end_files.Goals as goal
 
 pub loop-i-init : goal.loop-i-init

@@ -1,9 +1,6 @@
 use Rattle.std.proofs.Common.{◌≡◌, ℕ, length, take, drop}
 use Rattle.history_text.specs.declared.rule.Allowed.{Allowed}
-use Rattle.history_text.specs.code.Drops.{AreEndedOf}
-use Rattle.history_text.specs.rule.Files.{AreFilesOf}
-use Rattle.history_text.specs.rule.Lives.{AreLives}
-use Rattle.history_text.specs.rule.Losses.{AreLosses}
+use Rattle.history_text.specs.code.Readings.{AreEndedOf, AreFilesOf, AreLives, AreLosses}
 use Rattle.history_text.proofs.files.end_files.Given as goal
 
 abbrev pub invariant-loop-i : goal.invariant-loop-i

@@ -1,7 +1,6 @@
 use Rattle.std.proofs.Common.{length, subst, sym}
 use Rattle.std.proofs.lemmas.List.Elements.{All-set}
-use Rattle.history_text.specs.rule.Files.{IsFileOf}
-use Rattle.history_text.specs.code.Seconds.{second_step}
+use Rattle.history_text.specs.code.Readings.{IsFileOf, second_step}
 use Rattle.history_text.proofs.FileLaws.{file_push_two, one_more_for_two, second_is}
 use Rattle.history_text.proofs.files.push_steps.Goals as goal
 

@@ -1,7 +1,6 @@
 use Rattle.std.proofs.Common.{◌≤◌, ◌+◌, length, arith, rules}
 use Rattle.history_text.proofs.FileLaws.{files_before}
-use Rattle.history_text.proofs.Lines.{count_fits, has_read_more}
-use Rattle.history_text.proofs.ReadLaws.{read_later}
+use Rattle.history_text.proofs.HistoryLaws.{count_fits, has_read_more, read_later}
 use Rattle.history_text.proofs.reading.read_lines.Goals as goal
 
 pub overflow_add-number : goal.overflow_add-number

@@ -1,7 +1,7 @@
 use Rattle.std.proofs.Common.{length}
 use denote.Text.{Utf8}
 use denote.Shadow.{shadow}
-use Rattle.history_text.specs.rule.Readings.{HasRead}
+use Rattle.history_text.specs.code.Readings.{HasRead}
 use Rattle.history_text.proofs.reading.read_lines.Given as goal
 
 abbrev pub invariant-loop-rest : goal.invariant-loop-rest

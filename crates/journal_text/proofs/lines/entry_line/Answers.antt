@@ -1,7 +1,7 @@
 use Rattle.std.proofs.Common.{Some, None}
 use Rattle.std.specs.Fmt.{decimal}
 use Rattle.texts.proofs.Pairs.{reads-first_none, reads-pair, reads-pair_none}
-use Rattle.message_text.proofs.Variants.{none-of}
+use Rattle.message_text.proofs.NameTexts.{none-of}
 use Rattle.journal_text.specs.rule.Events.{IsServedEvent, named_text}
 use Rattle.journal_text.specs.rule.Lines.{IsPosition}
 use Rattle.journal_text.proofs.LineKinds.{entries, position}

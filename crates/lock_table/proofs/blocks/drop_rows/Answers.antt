@@ -5,7 +5,7 @@ use Rattle.std.proofs.lemmas.List.{take_all, drop_all, append-nil}
 use Rattle.std.proofs.lemmas.List.Edits.{map_over_more}
 use Rattle.lock_table.specs.declared.owner_locks.OwnerLocks.{OwnerLocks}
 use Rattle.lock_table.specs.rule.Tables.{all_rows}
-use Rattle.lock_table.specs.code.Blocks.{AreSome}
+use Rattle.lock_table.specs.code.Rows.{AreSome}
 use Rattle.lock_table.proofs.RowLemmas.{is_of_other}
 use Rattle.lock_table.proofs.BlockRows.{has_rows, has_rows_is, kept_rows, some_left}
 use Rattle.lock_table.proofs.blocks.drop_rows.Goals as goal

@@ -4,7 +4,7 @@ use Rattle.std.proofs.lemmas.Bool.{cases_lt}
 use Rattle.std.proofs.lemmas.Bool.Decides.{nat_tests}
 use Rattle.lock_table.specs.declared.owner_locks.OwnerLocks.{OwnerLocks}
 use Rattle.lock_table.specs.rule.Tables.{all_rows}
-use Rattle.lock_table.specs.code.Blocks.{rows_before}
+use Rattle.lock_table.specs.code.Rows.{rows_before}
 use Rattle.lock_table.proofs.BlockRows.{place_moved}
 use Rattle.lock_table.proofs.blocks.insert_row.Goals as goal
 

@@ -3,8 +3,7 @@ use Rattle.std.specs.List.{remove}
 use Rattle.std.proofs.lemmas.List.{get_or_default, get_or-set_same, length-set}
 use Rattle.lock_table.specs.declared.owner_locks.OwnerLocks.{OwnerLocks}
 use Rattle.lock_table.specs.rule.Tables.{all_rows}
-use Rattle.lock_table.proofs.Writes.{remove-set}
-use Rattle.lock_table.proofs.BlockRows.{all_remove_row, block_there, drop_empty, some-set, some-remove}
+use Rattle.lock_table.proofs.BlockRows.{remove-set, all_remove_row, block_there, drop_empty, some-set, some-remove}
 use Rattle.lock_table.proofs.blocks.remove_row.Goals as goal
 
 pub returns-then-is_empty-clause-rows : goal.returns-then-is_empty-clause-rows

@@ -1,5 +1,5 @@
 use Rattle.std.proofs.Common.{arith}
-use Rattle.lock_table.proofs.FlagLemmas.{bits-none, bits-below}
+use Rattle.lock_table.proofs.PageLemmas.{bits-none, bits-below}
 use Rattle.lock_table.proofs.flag_set.lowest_bit.Goals as goal
 
 pub returns-then-left-eq0-clause-none_below : goal.returns-then-left-eq0-clause-none_below

@@ -2,7 +2,7 @@ use Rattle.std.proofs.Common.{◌≡◌, ◌-◌, length, get_or, List, sym, ap,
 use Rattle.std.proofs.lemmas.Bool.{eqb-true}
 use Rattle.std.proofs.lemmas.Option.{get_or_from_slice_get}
 use Rattle.lock_table.specs.declared.owner_locks.OwnerLocks.{OwnerLocks}
-use Rattle.lock_table.proofs.FileRows.{files_rise}
+use Rattle.lock_table.proofs.RowLemmas.{files_rise}
 use Rattle.lock_table.proofs.place.are_of_file.Goals as goal
 
 pub returns-then-first-file : goal.returns-then-first-file

@@ -2,9 +2,8 @@ use Rattle.std.proofs.Common.{◌≡◌, ◌+◌, ◌-◌, true, suc, length, Li
 use Rattle.std.proofs.lemmas.Bool.{cases_lt}
 use Rattle.std.proofs.lemmas.List.Sorted.{IsPartitionPoint-from_clause}
 use Rattle.lock_table.specs.declared.owner_locks.OwnerLocks.{OwnerLocks}
-use Rattle.lock_table.specs.code.Rows.{mark_of}
-use Rattle.lock_table.specs.code.Blocks.{begins_to}
-use Rattle.lock_table.proofs.BlockSearch.{begins_parted, below_begun, above_begun}
+use Rattle.lock_table.specs.code.Rows.{mark_of, begins_to}
+use Rattle.lock_table.proofs.BlockRows.{begins_parted, below_begun, above_begun}
 use Rattle.lock_table.proofs.place.block_of.Goals as goal
 
 pub returns-clause-below : goal.returns-clause-below

@@ -1,8 +1,8 @@
 use Rattle.std.proofs.Common.{leb, ltb, List, rules, arith}
 use Rattle.std.proofs.lemmas.List.Sorted.{IsPartitionPoint-from_clause, IsPartitionedBy-leb, IsPartitionedBy-ltb}
 use Rattle.lock_table.specs.declared.owner_locks.OwnerLocks.{OwnerLocks}
-use Rattle.lock_table.specs.code.Blocks.{first_file}
-use Rattle.lock_table.proofs.BlockSearch.{first_files_rise, blocks_order, blocks_rows, blocks_held}
+use Rattle.lock_table.specs.code.Rows.{first_file}
+use Rattle.lock_table.proofs.BlockRows.{first_files_rise, blocks_order, blocks_rows, blocks_held}
 use Rattle.lock_table.proofs.place.blocks_of.Goals as goal
 
 pub slice_bounds-result-count : goal.slice_bounds-result-count

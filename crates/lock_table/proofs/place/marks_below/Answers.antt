@@ -3,7 +3,7 @@ use Rattle.std.proofs.lemmas.Option.{get_or_from_slice_get}
 use Rattle.std.proofs.lemmas.List.Sorted.{IsPartitionPoint-from_clause, IsPartitionedBy-ltb}
 use Rattle.lock_table.specs.declared.owner_locks.OwnerLocks.{OwnerLocks}
 use Rattle.lock_table.specs.code.Rows.{mark_of}
-use Rattle.lock_table.proofs.FileRows.{marks_rise}
+use Rattle.lock_table.proofs.RowLemmas.{marks_rise}
 use Rattle.lock_table.proofs.place.marks_below.Goals as goal
 
 pub returns-in-Some-clause-below : goal.returns-in-Some-clause-below

@@ -2,10 +2,9 @@ use Rattle.std.proofs.Common.{◌≡◌, ◌+◌, ◌*◌, ◌≤◌, true, ltb,
 use Rattle.std.specs.List.{AllWithin}
 use Rattle.std.proofs.lemmas.List.{length-drop}
 use Rattle.lock_table.specs.declared.owner_locks.OwnerLocks.{OwnerLocks}
-use Rattle.lock_table.specs.code.Pages.{flag_of}
-use Rattle.lock_table.specs.code.Rows.{mark_of}
-use Rattle.lock_table.proofs.FileRows.{rows-drop}
-use Rattle.lock_table.proofs.NearRows.{flags_passed}
+use Rattle.lock_table.specs.code.Rows.{flag_of, mark_of}
+use Rattle.lock_table.proofs.RowLemmas.{rows-drop}
+use Rattle.lock_table.proofs.BlockerLemmas.{flags_passed}
 use Rattle.lock_table.proofs.place.next_near.Goals as goal
 
 pub marks_below-requires : goal.marks_below-requires

@@ -4,8 +4,7 @@ use Rattle.std.proofs.lemmas.List.{get_or_default}
 use Rattle.lock_table.specs.declared.owner_locks.OwnerLocks.{OwnerLocks}
 use Rattle.lock_table.specs.code.Rows.{row_cmp, AreRows, IsRowAt, IsGap}
 use Rattle.lock_table.proofs.RowLemmas.{searched, gap_within}
-use Rattle.lock_table.proofs.BlockRows.{rows_of_block}
-use Rattle.lock_table.proofs.BlockSearch.{gap_whole, gap_none}
+use Rattle.lock_table.proofs.BlockRows.{rows_of_block, gap_whole, gap_none}
 use Rattle.lock_table.proofs.place.position.Goals as goal
 
 pub returns-then-block-blocks : goal.returns-then-block-blocks

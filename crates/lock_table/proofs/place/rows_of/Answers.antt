@@ -1,7 +1,7 @@
 use Rattle.std.proofs.Common.{leb, ltb, rules}
 use Rattle.std.proofs.lemmas.List.Sorted.{IsPartitionPoint-from_clause, IsPartitionedBy-leb, IsPartitionedBy-ltb}
 use Rattle.lock_table.specs.declared.owner_locks.OwnerLocks.{OwnerLocks}
-use Rattle.lock_table.proofs.FileRows.{files_rise, part_order, part_rows, part_file, part_held}
+use Rattle.lock_table.proofs.RowLemmas.{files_rise, part_order, part_rows, part_file, part_held}
 use Rattle.lock_table.proofs.place.rows_of.Goals as goal
 
 pub slice_bounds-result-count : goal.slice_bounds-result-count

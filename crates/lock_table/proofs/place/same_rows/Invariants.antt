@@ -1,7 +1,7 @@
 use Rattle.std.proofs.Common.{◌++◌, length}
 use Rattle.lock_table.specs.rule.Tables.{all_rows}
-use Rattle.lock_table.specs.code.Blocks.{AreSome}
-use Rattle.lock_table.proofs.SameRows.{Left}
+use Rattle.lock_table.specs.code.Rows.{AreSome}
+use Rattle.lock_table.proofs.RowLemmas.{Left}
 use Rattle.lock_table.proofs.place.same_rows.Given as goal
 
 abbrev pub invariant-loop-row : goal.invariant-loop-row

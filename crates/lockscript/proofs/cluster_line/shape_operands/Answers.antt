@@ -1,4 +1,4 @@
-use Rattle.message_text.proofs.Views.{view-none}
+use Rattle.message_text.proofs.NameTexts.{view-none}
 use Rattle.lockscript.proofs.Clusters.{clusters}
 use Rattle.lockscript.proofs.cluster_line.shape_operands.Goals as goal
 

@@ -3,13 +3,11 @@ use Rattle.messages.specs.rule.Shapes.{ShapeFields}
 use Rattle.messages.specs.declared.entry.Entry.{Entry}
 use Rattle.cluster_core.specs.rule.Histories.{HasOneHistory}
 use Rattle.cluster_core.specs.rule.Journals.{JournalFields, journal_of}
-use Rattle.merges.specs.rule.Merges.{AreMerged}
+use Rattle.merges.specs.rule.Merges.{AreMerged, log_of}
 use Rattle.std.proofs.lemmas.Result.{err_from_is_err_and}
 use Rattle.merges.specs.declared.merge_error.MergeError.{MergeError}
 use Rattle.merges.specs.declared.merge_error.MergeError.TheVariants.{JournalFull, NoOrder}
-use Rattle.merges.specs.rule.Logs.{log_of}
-use Rattle.merges.specs.code.Merging.{IsDone}
-use Rattle.merges.specs.code.Mergers.{MergerFields, Fails, fields_of, merging_of}
+use Rattle.merges.specs.code.Merging.{IsDone, MergerFields, Fails, fields_of, merging_of}
 use Rattle.merges.proofs.Mergers.{stuck_none, none_before}
 use Rattle.merges.proofs.Results.{none_at_all, all_too_long, merged, same_shape}
 use Rattle.merges.proofs.merge.merge.Goals as goal

@@ -1,5 +1,5 @@
 use Rattle.std.specs.Prelude.{◌≡◌, ℕ, ◌<◌, false, slice_index_or}
-use Rattle.merges.specs.rule.Logs.{LogFields, is_of}
+use Rattle.merges.specs.rule.Merges.{LogFields, is_of}
 use Rattle.merges.proofs.names.has_log.Given as goal
 
 abbrev pub invariant-loop-index : goal.invariant-loop-index

@@ -1,5 +1,5 @@
-use Rattle.message_text.proofs.Commands.{with_epochs}
-use Rattle.message_text.proofs.Views.{view-none}
+use Rattle.message_text.proofs.MessageKinds.{with_epochs}
+use Rattle.message_text.proofs.NameTexts.{view-none}
 use Rattle.message_text.proofs.fields.of_epoch.Goals as goal
 
 pub returns-in_err-epoch : goal.returns-in_err-epoch

@@ -1,4 +1,4 @@
-use Rattle.message_text.proofs.TextLaws.{messages_have_texts}
+use Rattle.message_text.proofs.MessageKinds.{messages_have_texts}
 use Rattle.message_text.proofs.laws.messages_have_texts.Goals as goal
 
 pub returns : goal.returns

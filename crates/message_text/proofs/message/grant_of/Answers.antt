@@ -1,5 +1,5 @@
 use Rattle.message_text.proofs.MessageKinds.{grants}
-use Rattle.message_text.proofs.Variants.{none-of}
+use Rattle.message_text.proofs.NameTexts.{none-of}
 use Rattle.message_text.proofs.message.grant_of.Goals as goal
 
 pub returns-in_err-file : goal.returns-in_err-file

@@ -1,12 +1,10 @@
 use Rattle.std.proofs.Common.{◌≡◌, ◌≢◌, ℕ, List, ◌∷◌, ◌++◌, rules}
 use Rattle.model.specs.declared.host.Host.{Host}
-use Rattle.messages.specs.rule.Epochs.{IsRebuilt}
+use Rattle.messages.specs.rule.Shapes.{IsRebuilt}
 use Rattle.texts.specs.rule.Layout.{space}
-use Rattle.message_text.specs.rule.Names.{holder_text}
+use Rattle.message_text.specs.rule.Texts.{holder_text, IsHolder, epoch_text}
 use Rattle.message_text.specs.code.Reports.{IsRunsText}
-use Rattle.message_text.specs.rule.Served.{IsHolder}
-use Rattle.message_text.specs.rule.Texts.{epoch_text}
-use Rattle.message_text.proofs.ReportFields.{no_epoch, no_holder, no_runs}
+use Rattle.message_text.proofs.MessageKinds.{no_epoch, no_holder, no_runs}
 use Rattle.message_text.proofs.message.report_of.Goals as goal
 
 pub returns-in_default-first_field : goal.returns-in_default-first_field

@@ -1,5 +1,4 @@
-use Rattle.message_text.proofs.Views.{view-none}
-use Rattle.message_text.proofs.NameTexts.{calls}
+use Rattle.message_text.proofs.NameTexts.{view-none, calls}
 use Rattle.message_text.proofs.names.call_of.Goals as goal
 
 pub returns-in_err-node : goal.returns-in_err-node

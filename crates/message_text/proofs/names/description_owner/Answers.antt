@@ -1,5 +1,4 @@
-use Rattle.message_text.proofs.Variants.{none-of}
-use Rattle.message_text.proofs.NameTexts.{descriptions}
+use Rattle.message_text.proofs.NameTexts.{none-of, descriptions}
 use Rattle.message_text.proofs.names.description_owner.Goals as goal
 
 pub returns-in_err-number : goal.returns-in_err-number

@@ -1,5 +1,4 @@
-use Rattle.message_text.proofs.Variants.{none-of}
-use Rattle.message_text.proofs.NameTexts.{processes}
+use Rattle.message_text.proofs.NameTexts.{none-of, processes}
 use Rattle.message_text.proofs.names.process_owner.Goals as goal
 
 pub returns-in_err-number : goal.returns-in_err-number

@@ -2,7 +2,7 @@ use Rattle.std.specs.Prelude.{◌≡◌, List, IfOk}
 use Rattle.std.proofs.Common.{subst}
 use Rattle.token_set.specs.rule.Tokens.{token_of}
 use Rattle.messages.specs.declared.token_run.TokenRun.{TokenRun}
-use Rattle.node_core.proofs.ReaderLaws.{reported_runs, reported_longest}
+use Rattle.node_core.proofs.NodeLaws.{reported_runs, reported_longest}
 use Rattle.node_core.proofs.file_row.runs_of.Goals as goal
 
 pub of-requires : goal.of-requires

@@ -1,6 +1,6 @@
 use Rattle.std.proofs.Common.{◌∷◌, [], ◌++◌, ap, ◌∙◌, arith}
-use Rattle.node_core.specs.code.FileRows.{rows_of}
-use Rattle.node_core.proofs.MadeRows.{rows-push}
+use Rattle.node_core.specs.code.Plans.{rows_of}
+use Rattle.node_core.proofs.FileLaws.{rows-push}
 use Rattle.node_core.proofs.file_rows.make_rows.Goals as goal
 
 pub loop-alloc-preserved : goal.loop-alloc-preserved

@@ -1,6 +1,6 @@
 use Rattle.std.proofs.Common.{◌≡◌, ℕ, ◌-◌, ◌≤◌, length}
 use Rattle.std.specs.Vec.{vec_capacity}
-use Rattle.node_core.specs.code.FileRows.{rows_of}
+use Rattle.node_core.specs.code.Plans.{rows_of}
 use Rattle.node_core.proofs.file_rows.make_rows.Given as goal
 
 abbrev pub invariant-loop-alloc : goal.invariant-loop-alloc

@@ -12,8 +12,7 @@ use crate::effect::Effect;
 use crate::node_edit::NodeEdit;
 use crate::numbers::{is_node, is_within};
 use crate::token_command::TokenCommand;
-use messages::message::Message;
-use messages::refusal::StepError;
+use messages::{Message, StepError};
 use std::alloc::{AllocError, Global};
 
 impl Node {

@@ -1,5 +1,5 @@
 use Rattle.std.proofs.Common.{◌≡◌, ◌+◌, ◌-◌, ℕ}
-use Rattle.placement.specs.code.CallIndexes.{list_at}
+use Rattle.placement.specs.code.Indexes.{list_at}
 use Rattle.placement.proofs.call_index.lengthen.Given as goal
 
 abbrev pub invariant-loop-alloc : goal.invariant-loop-alloc

@@ -3,7 +3,7 @@ use Rattle.std.specs.Prelude.{if◌then◌else◌}
 use Rattle.std.specs.Vec.{with_item}
 use Rattle.model.specs.declared.host.Host.{Host}
 use Rattle.model.specs.rule.Owners.{host_of_call, same_host}
-use Rattle.placement.specs.code.CallIndexes.{Rows, row_of}
+use Rattle.placement.specs.code.Indexes.{Rows, row_of}
 use Rattle.placement.proofs.CallIndexes.{row-pushed}
 use Rattle.placement.proofs.call_index.push_next.Goals as goal
 

@@ -1,6 +1,6 @@
 use Rattle.std.proofs.Common.{◌∙◌, ap}
 use Rattle.model.specs.rule.Table.{empty_table}
-use Rattle.messages.specs.rule.Versions.{most_regions}
+use Rattle.messages.specs.rule.Shapes.{most_regions}
 use Rattle.fcntl_table.specs.rule.Tables.{table_of}
 use Rattle.placement.proofs.Replays.{follows_start, follows_more, follows_stuck, follows_whole}
 use Rattle.placement.proofs.legal.legal.Goals as goal

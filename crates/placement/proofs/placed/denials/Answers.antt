@@ -4,7 +4,7 @@ use Rattle.std.proofs.lemmas.List.{take_all}
 use Rattle.messages.specs.declared.entry.Entry.{Entry}
 use Rattle.placement.specs.declared.revoke_id.RevokeId.{RevokeId}
 use Rattle.placement.specs.code.Indexes.{Conflicts, KnowsDenial, denied, same_revoke, told_at}
-use Rattle.placement.proofs.Locating.{denials_put, denials_more, untold_put}
+use Rattle.placement.proofs.Index.{denials_put, denials_more, untold_put}
 use Rattle.placement.proofs.placed.denials.Goals.{in-Some+in_ok-insert, in_default}
 use Rattle.placement.proofs.placed.denials.Goals as goal
 

@@ -1,6 +1,6 @@
 use Rattle.std.proofs.Common.{◌≡◌, take}
-use Rattle.cluster_core.specs.code.Placement.{items_in}
-use Rattle.placement.specs.code.Standing.{standing}
+use Rattle.cluster_core.specs.code.Calls.{items_in}
+use Rattle.placement.specs.code.Indexes.{standing}
 use Rattle.placement.proofs.placed.items_in.Given as goal
 
 abbrev pub invariant-loop-index : goal.invariant-loop-index

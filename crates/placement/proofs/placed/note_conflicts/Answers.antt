@@ -1,6 +1,6 @@
 use Rattle.std.proofs.Common.{ap, sym, get_or, take, ◌∙◌}
 use Rattle.messages.specs.declared.message.Message.{Message}
-use Rattle.placement.proofs.Locating.{noted_none, noted_known, noted_more, noted_all}
+use Rattle.placement.proofs.Index.{noted_none, noted_known, noted_more, noted_all}
 use Rattle.placement.proofs.placed.note_conflicts.Goals as goal
 
 pub loop-message-init : goal.loop-message-init

@@ -1,5 +1,5 @@
 use Rattle.std.proofs.Common.{take}
-use Rattle.placement.proofs.Locating.{Noted}
+use Rattle.placement.proofs.Index.{Noted}
 use Rattle.placement.proofs.placed.note_conflicts.Given as goal
 
 abbrev pub invariant-loop-message : goal.invariant-loop-message

@@ -2,9 +2,9 @@ use Rattle.std.proofs.Common.{◌≡◌, ◌∙◌, List, arith, length, sym, ap
 use Rattle.messages.specs.declared.entry.Entry.{Entry}
 use Rattle.cluster_core.specs.declared.item.Item.{Item}
 use Rattle.cluster_core.specs.rule.Histories.{HasHistory, EachAtItsPlace, Rising}
-use Rattle.cluster_core.specs.code.Placement.{items_in, slots_of}
+use Rattle.cluster_core.specs.code.Calls.{items_in, slots_of}
 use Rattle.placement.specs.declared.slot.Slot.{Slot}
-use Rattle.placement.specs.code.Standing.{standing}
+use Rattle.placement.specs.code.Indexes.{standing}
 use Rattle.placement.specs.rule.Histories.{HistoryParts}
 use Rattle.placement.proofs.placed.placed.Goals as goal
 

@@ -1,5 +1,5 @@
 use Rattle.std.proofs.Common.{◌+◌, sym, ap, ◌∙◌, Some}
-use Rattle.placement.specs.code.CallIndexes.{entry_of}
+use Rattle.placement.specs.code.Indexes.{entry_of}
 use Rattle.placement.proofs.Placing.{slot_answers}
 use Rattle.placement.proofs.placed.slot_at.Goals as goal
 

@@ -1,5 +1,5 @@
 use Rattle.std.proofs.Common.{ap, sym, ◌∙◌, option_copied}
-use Rattle.placement.proofs.Locating.{found_before}
+use Rattle.placement.proofs.Index.{found_before}
 use Rattle.placement.proofs.placed.slot_of.Goals as goal
 
 pub returns-clause-within : goal.returns-clause-within

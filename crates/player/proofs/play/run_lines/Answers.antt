@@ -1,7 +1,7 @@
 use Rattle.std.proofs.Common.{Some, None, List, length, reverse, arith, subst, ◌≡◌}
 use Rattle.std.proofs.lemmas.Result.{err_from_is_err_and}
 use Rattle.lockscript.specs.rule.Scripts.{LineFields}
-use Rattle.player.specs.code.Parts.{progress}
+use Rattle.player.specs.code.Rounds.{progress}
 use Rattle.player.specs.rule.Progress.{RunsTo}
 use Rattle.player.proofs.Progresses.{runs_first, runs_out, fills}
 use Rattle.player.proofs.play.run_lines.Goals as goal

@@ -1,5 +1,5 @@
 use Rattle.std.proofs.Common.{length, reverse}
-use Rattle.player.specs.code.Parts.{progress}
+use Rattle.player.specs.code.Rounds.{progress}
 use Rattle.player.specs.rule.Progress.{End, RunsTo}
 use Rattle.player.proofs.play.run_lines.Given as goal
 

@@ -5,8 +5,7 @@ use Rattle.messages.specs.declared.message.Message.{Message}
 use Rattle.cluster_core.specs.rule.Parts.{WorldParts, world_state}
 use Rattle.cluster_core.specs.rule.Rounds.{IsQuiet}
 use Rattle.player.specs.rule.Rounds.{IsDue}
-use Rattle.player.specs.code.Due.{AreDue}
-use Rattle.player.specs.code.Rounds.{Arrives}
+use Rattle.player.specs.code.Rounds.{AreDue, Arrives}
 use Rattle.player.proofs.DueLists.{due_quiet}
 use Rattle.player.proofs.QuietRuns.{quietly_append, quietly_none}
 use Rattle.player.proofs.RoundEnds.{makes_round, stops_due, stops_sent}

@@ -4,7 +4,7 @@ use Rattle.std.proofs.lemmas.Str.{IsUtf8-string_bytes}
 use Rattle.cluster_core.specs.rule.Journals.{JournalFields}
 use Rattle.replay.specs.rule.Audits.{HasJournal, IsAudited, WritesFew}
 use Rattle.replay.specs.rule.Faults.{IsJournalFault, IsTextFault}
-use Rattle.replay.proofs.Journals.{has-journal, text-fault}
+use Rattle.replay.proofs.Audits.{has-journal, text-fault}
 use Rattle.replay.proofs.audit.checked.Goals as goal
 
 pub returns-clause-audited : goal.returns-clause-audited

@@ -1,4 +1,4 @@
-use Rattle.std.proofs.Common.{◌∙◌, subst, string_bytes, sym, List, ℕ}
+use Rattle.std.proofs.Common.{◌∙◌, subst, string_bytes, sym}
 use Rattle.std.proofs.lemmas.Bool.{false≢true}
 use Rattle.std.proofs.lemmas.Result.{IfErr-weaker, IfOk-weaker}
 use Rattle.std.proofs.lemmas.Str.{IsUtf8-string_bytes}
@@ -6,7 +6,7 @@ use Rattle.cluster_core.specs.rule.Journals.{JournalFields}
 use Rattle.journal_text.specs.rule.Readings.{IsOld}
 use Rattle.replay.specs.rule.Audits.{HasNewJournal, IsAudited, WritesFew}
 use Rattle.replay.specs.rule.Faults.{IsOldFault, IsTextFault}
-use Rattle.replay.proofs.Journals.{has-journal}
+use Rattle.replay.proofs.Audits.{has-journal}
 use Rattle.replay.proofs.LaterRuns.{is_new, old-fault}
 use Rattle.replay.proofs.audit.checked_new.Goals as goal
 

@@ -1,4 +1,4 @@
-use Rattle.replay.proofs.Journals.{told-result}
+use Rattle.replay.proofs.Audits.{told-result}
 use Rattle.replay.proofs.audit.entries_in.Goals as goal
 
 pub returns-in_ok-measured-clause-fault : goal.returns-in_ok-measured-clause-fault

@@ -1,4 +1,4 @@
-use Rattle.std.proofs.Common.{◌∙◌, ◌+◌, ◌∷◌, ◌++◌, [], ap, arith, drop, refl, subst, sym, string_bytes, List, ℕ}
+use Rattle.std.proofs.Common.{◌∙◌, ◌+◌, ◌∷◌, ◌++◌, [], ap, arith, drop, refl, subst, sym, List, ℕ}
 use Rattle.std.proofs.lemmas.List.{at_drop_more}
 use Rattle.messages.specs.declared.entry.Entry.{Entry}
 use Rattle.journal_text.specs.rule.Journals.{entries_text, entry_text}

@@ -1,5 +1,4 @@
-use Rattle.command_line.specs.rule.JudgeTasks.{judge_task_of}
-use Rattle.command_line.specs.rule.Tasks.{judge}
+use Rattle.command_line.specs.rule.Tasks.{judge_task_of, judge}
 use Rattle.replay.specs.rule.Judging.{IsJudgedWith}
 use Rattle.replay.proofs.Tools.{tool-result}
 use Rattle.replay.proofs.perform.shown_of.Goals as goal

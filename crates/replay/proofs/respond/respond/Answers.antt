@@ -5,11 +5,9 @@ use Rattle.command_line.specs.declared.refusal.Refusal.{Refusal}
 use Rattle.command_line.proofs.CommandLine.{asks_one, asks_refused}
 use Rattle.replay.specs.declared.fault.Fault.{Fault}
 use Rattle.replay.specs.declared.fault.Fault.TheVariants.{CannotWriteOutput, NoMemory}
-use Rattle.replay.specs.rule.Commands.{Does, IsFaultOrShort, Leaves, Shows, TellsFault, says_why}
+use Rattle.replay.specs.rule.Commands.{Does, IsFaultOrShort, Leaves, Shows, TellsFault, says_why, IsHelp, refusal_status, refusal_text}
 use Rattle.replay.specs.rule.Faults.{fault_line}
-use Rattle.replay.specs.rule.Outputs.{AppendsPart, WritesOrFails}
-use Rattle.replay.specs.rule.Showing.{TellsBeside}
-use Rattle.replay.specs.rule.Refusals.{IsHelp, refusal_status, refusal_text}
+use Rattle.replay.specs.rule.Stores.{AppendsPart, WritesOrFails, TellsBeside}
 use Rattle.replay.proofs.Refused.{refused-short, refused-unshown, short-leaves}
 use Rattle.replay.proofs.Stores.{same, same-unless}
 use Rattle.replay.proofs.respond.respond.Goals as goal

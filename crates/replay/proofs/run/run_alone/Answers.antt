@@ -10,13 +10,13 @@ returns-clause-done g c =
     let holds = g.S.Store.holds in
     let came = c.in_ok-played.ensures.run in
     let kept = kept-after (holds c.args.store.now) (holds c.run_of.new.store) (holds c.text_kept.new.store) _ _ c.run_of.ensures.files c.in_ok-text.ensures.kept in
-    (_, came.0, came.1, c.shown_beside.ensures _ came.0 c.args.wanted.quiet came.2 c.in_ok-text.ensures.text, kept, c.in_ok-text.ensures.read)
+    (_, came.0, came.1, c.shown_beside.ensures _ came.0 c.args.asked.quiet came.2 c.in_ok-text.ensures.text, kept, c.in_ok-text.ensures.read)
 
 pub returns-in_err-text-clause-fault : goal.returns-in_err-text-clause-fault
 returns-in_err-text-clause-fault g c =
     let p = err_from_is_err_and c.from_residual-in_err-text.result c.from_residual-in_err-text.ensures.1 in
     let holds = g.S.Store.holds in
     let came = c.in_ok-played.ensures.run in
-    let has = uncompared (holds c.args.store.now c.args.path.now) c.args.wanted.expect c.args.wanted.calm came.0 _ came.1 in
-    let task = run c.args.path.now None (option_map (λ file. file.now) c.args.journal) c.args.wanted.expect c.args.wanted.quiet c.args.wanted.calm in
+    let has = uncompared (holds c.args.store.now c.args.asked.script.now) c.args.asked.expect c.args.asked.calm came.0 _ came.1 in
+    let task = run c.args.asked.script.now None (option_map (λ file. file.now) c.args.asked.journal) c.args.asked.expect c.args.asked.quiet c.args.asked.calm in
     rw (p.1, p.2) (unkept-fault (holds c.args.store.now) (holds c.run_of.new.store) (holds c.text_kept.new.store) (g.S.Store.ran_short c.text_kept.new.store) (g.S.Store.refuses c.text_kept.new.store) task _ _ c.run_of.ensures.files refl has (inr (has.1.0, has.1.1)) c.in_err-text.ensures.fault)

@@ -1,6 +1,5 @@
 use Rattle.std.proofs.Common.{option_map, subst}
 use Rattle.std.proofs.lemmas.Result.{err_from_is_err_and}
-use Rattle.cluster_core.specs.rule.Journals.{JournalFields}
 use Rattle.replay.specs.rule.Commands.{IsReadFrom}
 use Rattle.replay.proofs.Drafts.{read-from, unkept-short}
 use Rattle.replay.proofs.run.text_kept.Goals as goal

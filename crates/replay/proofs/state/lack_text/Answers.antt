@@ -1,6 +1,6 @@
 use Rattle.std.proofs.Common.{◌∙◌, length}
 use Rattle.std.proofs.lemmas.Result.{IfOk-weaker}
-use Rattle.replay.specs.rule.Tellings.{lack_text}
+use Rattle.replay.specs.rule.Commands.{lack_text}
 use Rattle.replay.proofs.state.lack_text.Goals as goal
 
 pub returns : goal.returns

@@ -1,6 +1,6 @@
 use Rattle.std.proofs.Common.{subst}
 use Rattle.cluster_core.specs.rule.Journals.{JournalFields}
-use Rattle.replay.specs.rule.Tellings.{IsStateTold}
+use Rattle.replay.specs.rule.Commands.{IsStateTold}
 use Rattle.replay.proofs.state.state.Goals as goal
 
 pub returns-in-Ok-clause-done : goal.returns-in-Ok-clause-done

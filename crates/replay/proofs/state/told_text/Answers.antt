@@ -5,7 +5,7 @@ use Rattle.std.proofs.lemmas.Result.{IfOk-weaker}
 use Rattle.messages.specs.declared.version.Version.{Version}
 use Rattle.messages.specs.rule.Shapes.{ShapeFields}
 use Rattle.states.specs.rule.Texts.{IsStateText}
-use Rattle.replay.specs.rule.Tellings.{position_of, IsStateBehind}
+use Rattle.replay.specs.rule.Commands.{position_of, IsStateBehind}
 use Rattle.replay.proofs.state.told_text.Goals as goal
 
 pub returns : goal.returns

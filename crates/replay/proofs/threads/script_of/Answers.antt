@@ -1,6 +1,6 @@
 use Rattle.std.proofs.lemmas.Result.{err_from_is_err_and}
 use Rattle.replay.proofs.Stores.{text-held}
-use Rattle.replay.proofs.ThreadLines.{text_fault}
+use Rattle.replay.proofs.OnThreads.{text_fault}
 use Rattle.replay.proofs.threads.script_of.Goals as goal
 
 pub returns-in_err-parse_for_threads-clause-fault : goal.returns-in_err-parse_for_threads-clause-fault

@@ -1,7 +1,7 @@
 use Rattle.std.proofs.Common.{sym, ◌∙◌}
 use Rattle.std.proofs.lemmas.Result.{on_ok_weaker}
 use Rattle.run_clients.specs.code.Times.{IsMade}
-use Rattle.run_clients.proofs.Noting.{made_here, made_never, made_once, noted, unnoted}
+use Rattle.run_clients.proofs.LastCalls.{made_here, made_never, made_once, noted, unnoted}
 use Rattle.run_clients.proofs.call_times.note_call.Goals as goal
 
 pub returns-in-Some : goal.returns-in-Some

@@ -1,7 +1,7 @@
 use Rattle.std.proofs.Common.{sym, ◌∙◌}
 use Rattle.std.proofs.lemmas.Result.{on_ok_weaker}
 use Rattle.run_clients.specs.code.Times.{IsAnswered}
-use Rattle.run_clients.proofs.Noting.{answered_here, answered_never, answered_once, noted, unnoted}
+use Rattle.run_clients.proofs.LastCalls.{answered_here, answered_never, answered_once, noted, unnoted}
 use Rattle.run_clients.proofs.call_times.note_reply.Goals as goal
 
 pub returns-in-Some : goal.returns-in-Some

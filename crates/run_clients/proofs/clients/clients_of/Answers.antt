@@ -1,19 +1,17 @@
 use Rattle.std.proofs.Common.{◌≡◌, ◌+◌, refl, sym, ◌∙◌, ap, subst, List, length}
 use Rattle.std.proofs.lemmas.Option.{slice_get_read}
 use Rattle.model.specs.rule.Table.{empty_table}
-use Rattle.messages.specs.rule.Versions.{most_regions}
+use Rattle.messages.specs.rule.Shapes.{most_regions}
 use Rattle.messages.specs.declared.entry.Entry.{Entry}
 use Rattle.cluster_core.specs.rule.Union.{union}
 use Rattle.cluster_core.specs.rule.Histories.{HasHistory, EachAtItsPlace}
 use Rattle.fcntl_table.specs.rule.Tables.{table_of}
 use Rattle.placement.proofs.Replays.{follows_start, follows_more}
-use Rattle.run_clients.specs.code.Anchored.{AreAnchored}
+use Rattle.run_clients.specs.code.Times.{AreAnchored, AreTimes}
 use Rattle.run_clients.specs.rule.Seen.{HasOpened, IsSeen}
-use Rattle.run_clients.specs.code.Times.{AreTimes}
-use Rattle.run_clients.proofs.Going.{may_follow, seen_start, seen_more, seen_whole}
-use Rattle.run_clients.proofs.Kept.{empty_anchored}
-use Rattle.run_clients.proofs.Noting.{item_known, item_timed}
-use Rattle.run_clients.proofs.OpenCalls.{each_open}
+use Rattle.run_clients.proofs.EachOpen.{may_follow, seen_start, seen_more, seen_whole}
+use Rattle.run_clients.proofs.Drops.{empty_anchored}
+use Rattle.run_clients.proofs.LastCalls.{item_known, item_timed, each_open}
 use Rattle.run_clients.proofs.Runs.{item_keeps, seen_is_explained}
 use Rattle.run_clients.proofs.clients.clients_of.Goals as goal
 

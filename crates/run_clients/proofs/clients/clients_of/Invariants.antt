@@ -1,10 +1,10 @@
 use Rattle.std.proofs.Common.{drop}
 use Rattle.model.specs.rule.Table.{empty_table}
-use Rattle.messages.specs.rule.Versions.{most_regions}
+use Rattle.messages.specs.rule.Shapes.{most_regions}
 use Rattle.fcntl_table.specs.rule.Tables.{table_of}
 use Rattle.placement.proofs.Replays.{Follows}
-use Rattle.run_clients.specs.code.Anchored.{AreAnchored}
-use Rattle.run_clients.proofs.Going.{SeenSoFar}
+use Rattle.run_clients.specs.code.Times.{AreAnchored}
+use Rattle.run_clients.proofs.EachOpen.{SeenSoFar}
 use Rattle.run_clients.proofs.clients.clients_of.Given as goal
 
 abbrev pub invariant-loop-item : goal.invariant-loop-item

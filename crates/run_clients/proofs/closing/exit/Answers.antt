@@ -2,10 +2,9 @@ use Rattle.std.proofs.Common.{sym, ◌∙◌, ap, subst, arith}
 use Rattle.model.specs.rule.Table.{Table, is_running}
 use Rattle.model.proofs.FailLaws.{closed_below-more}
 use Rattle.fcntl_table.specs.rule.Tables.{table_of}
-use Rattle.run_clients.specs.code.Anchored.{AreAnchored}
-use Rattle.run_clients.specs.rule.Deeds.{closings_below}
-use Rattle.run_clients.proofs.Drops.{closings-zero}
-use Rattle.run_clients.proofs.Kept.{closed_below-zero, shut_keeps}
+use Rattle.run_clients.specs.code.Times.{AreAnchored}
+use Rattle.run_clients.specs.rule.Seen.{closings_below}
+use Rattle.run_clients.proofs.Drops.{closings-zero, closed_below-zero, shut_keeps}
 use Rattle.run_clients.proofs.Shut.{closings_more, exit_shut, none_at_first, shut_runs}
 use Rattle.run_clients.proofs.closing.exit.Goals as goal
 

@@ -2,7 +2,7 @@ use Rattle.std.proofs.Common.{◌≡◌, ◌≤◌, ◌++◌}
 use Rattle.model.specs.rule.Limits.{most_descriptors}
 use Rattle.model.specs.rule.Table.{closed_below}
 use Rattle.fcntl_table.specs.rule.Tables.{table_of}
-use Rattle.run_clients.specs.rule.Deeds.{closings_below}
+use Rattle.run_clients.specs.rule.Seen.{closings_below}
 use Rattle.run_clients.proofs.closing.exit.Given as goal
 
 -- the descriptors below this one are closed

@@ -3,10 +3,9 @@ use Rattle.std.proofs.lemmas.Bool.{both_ways}
 use Rattle.model.specs.rule.Limits.{most_processes}
 use Rattle.model.proofs.FailLaws.{exited_before-first, exited_before-more, exited_to-none}
 use Rattle.fcntl_table.specs.rule.Tables.{table_of}
-use Rattle.run_clients.specs.code.Anchored.{AreAnchored}
-use Rattle.run_clients.specs.rule.Deeds.{exits_to}
-use Rattle.run_clients.proofs.Drops.{exits_to-zero}
-use Rattle.run_clients.proofs.Kept.{exits_keep}
+use Rattle.run_clients.specs.code.Times.{AreAnchored}
+use Rattle.run_clients.specs.rule.Seen.{exits_to}
+use Rattle.run_clients.proofs.Drops.{exits_to-zero, exits_keep}
 use Rattle.run_clients.proofs.Shut.{exits_more, no_host_idle, none_at_first, none_exit}
 use Rattle.run_clients.proofs.closing.fail.Goals as goal
 

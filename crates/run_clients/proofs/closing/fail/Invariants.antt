@@ -2,7 +2,7 @@ use Rattle.std.proofs.Common.{◌≡◌, ◌≤◌, ◌+◌, ◌-◌, ◌++◌}
 use Rattle.model.specs.rule.Limits.{most_processes}
 use Rattle.model.specs.rule.Table.{exited_to}
 use Rattle.fcntl_table.specs.rule.Tables.{table_of}
-use Rattle.run_clients.specs.rule.Deeds.{exits_to}
+use Rattle.run_clients.specs.rule.Seen.{exits_to}
 use Rattle.run_clients.proofs.closing.fail.Given as goal
 
 -- the processes below this one have exited

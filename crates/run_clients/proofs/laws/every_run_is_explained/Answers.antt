@@ -1,4 +1,4 @@
-use Rattle.run_clients.proofs.EachRun.{run_is_explained}
+use Rattle.run_clients.proofs.EachOpen.{run_is_explained}
 use Rattle.run_clients.proofs.laws.every_run_is_explained.Goals as goal
 
 pub returns : goal.returns

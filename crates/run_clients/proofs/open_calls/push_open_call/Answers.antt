@@ -3,10 +3,10 @@ use Rattle.std.proofs.lemmas.Result.{on_ok_weaker}
 use Rattle.model.specs.declared.reply.Reply.TheVariants.{Done}
 use Rattle.cluster_core.specs.rule.Histories.{caller}
 use Rattle.fcntl_table.specs.rule.Tables.{table_of}
-use Rattle.run_clients.specs.code.LastCalls.{last_of, name_of}
+use Rattle.run_clients.specs.code.Times.{last_of, name_of}
 use Rattle.run_clients.specs.declared.deed.Deed.{Deed}
-use Rattle.run_clients.specs.rule.Deeds.{listed, lock_deed}
-use Rattle.run_clients.proofs.OpenCalls.{opened, opened_answered, opened_followed, opened_unnoted}
+use Rattle.run_clients.specs.rule.Seen.{listed, lock_deed}
+use Rattle.run_clients.proofs.LastCalls.{opened, opened_answered, opened_followed, opened_unnoted}
 use Rattle.run_clients.proofs.open_calls.push_open_call.Goals as goal
 
 pub returns-then-is_answered : goal.returns-then-is_answered

@@ -2,7 +2,7 @@ use Rattle.std.proofs.Common.{◌≡◌, ℕ, ◌+◌, length, refl, subst, arit
 use Rattle.std.proofs.lemmas.Option.{slice_get_read}
 use Rattle.fcntl_table.specs.rule.Tables.{table_of}
 use Rattle.run_clients.specs.rule.Seen.{HasOpened}
-use Rattle.run_clients.proofs.OpenCalls.{opened_more, opened_none}
+use Rattle.run_clients.proofs.LastCalls.{opened_more, opened_none}
 use Rattle.run_clients.proofs.open_calls.push_open_calls.Goals as goal
 
 pub loop-index-init : goal.loop-index-init

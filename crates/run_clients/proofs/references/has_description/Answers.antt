@@ -2,7 +2,7 @@ use Rattle.std.proofs.Common.{sym, ◌∙◌, arith}
 use Rattle.model.specs.rule.Descriptors.{is_of}
 use Rattle.model.specs.rule.Table.{around}
 use Rattle.fcntl_table.specs.rule.Tables.{table_of}
-use Rattle.run_clients.proofs.Lookups.{idle_has_none, has_found, none_more}
+use Rattle.run_clients.proofs.Calls.{idle_has_none, has_found, none_more}
 use Rattle.run_clients.proofs.references.has_description.Goals as goal
 
 pub returns-then-not-is_running : goal.returns-then-not-is_running

@@ -3,8 +3,8 @@ use Rattle.intervals.specs.rule.Search.{some_passes}
 use Rattle.model.specs.declared.process.Process.{Process}
 use Rattle.model.specs.rule.Table.{around}
 use Rattle.fcntl_table.specs.rule.Tables.{table_of}
-use Rattle.run_clients.specs.code.References.{has_description}
-use Rattle.run_clients.proofs.Lookups.{none_yet, none_more, open_found}
+use Rattle.run_clients.specs.code.Times.{has_description}
+use Rattle.run_clients.proofs.Calls.{none_yet, none_more, open_found}
 use Rattle.run_clients.proofs.references.is_open.Goals as goal
 
 pub loop-pid-init : goal.loop-pid-init

@@ -3,7 +3,7 @@ use Rattle.intervals.specs.rule.Search.{some_passes}
 use Rattle.model.specs.rule.Limits.{most_processes}
 use Rattle.model.specs.rule.Table.{around}
 use Rattle.fcntl_table.specs.rule.Tables.{table_of}
-use Rattle.run_clients.specs.code.References.{has_description}
+use Rattle.run_clients.specs.code.Times.{has_description}
 use Rattle.run_clients.proofs.references.is_open.Given as goal
 
 -- none of the processes below this one has a descriptor of the description

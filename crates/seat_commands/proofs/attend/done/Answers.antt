@@ -1,19 +1,10 @@
 use Rattle.std.proofs.Common.{sym, subst}
-use Rattle.seat_commands.specs.declared.words.Asked.{Asked}
+use Rattle.seat_commands.specs.declared.lines.Asked.{Asked}
 use Rattle.seat_commands.specs.rule.Doings.{DoesSo}
 use Rattle.seat_commands.proofs.attend.done.Goals as goal
 
 pub returns-in-Merge : goal.returns-in-Merge
 returns-in-Merge g c =
-    let merges = c.merge_command.ensures in
     let holds = g.S.Store.holds in
-    let Does : Asked → Type 0 = λ asked. DoesSo g.R.File.Write.contents g.R.File.Read.remaining (holds c.args.store.now) (holds c.merge_command.new.store) (g.I.Read.remaining c.args.input) (g.O.Write.contents c.args.out.now) (g.O.Write.contents c.merge_command.new.out) asked c.merge_command.result in
-    subst Does (sym c.in-Merge.is) (record {
-      done = merges.done;
-      none = merges.none;
-      no_log = merges.no_log;
-      within = merges.within;
-      yes = merges.yes;
-      no = merges.no;
-      files = merges.files;
-    })
+    let Does : Asked → Type 0 = λ asked. DoesSo g.R.File.Write.contents g.R.File.Read.remaining (holds c.args.store.now) (holds c.merge_command.new.store) (g.I.Read.remaining c.args.reader.now) (g.O.Write.contents c.args.out.now) (g.O.Write.contents c.merge_command.new.out) asked c.merge_command.result in
+    subst Does (sym c.in-Merge.is) c.merge_command.ensures

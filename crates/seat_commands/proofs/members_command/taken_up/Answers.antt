@@ -1,5 +1,5 @@
 use Rattle.std.proofs.Common.{List, refl, subst, ℕ}
-use Rattle.seat_keeping.specs.rule.ListFiles.{IsReadBack}
+use Rattle.seat_commands.specs.rule.ListFiles.{IsReadBack}
 use Rattle.seat_commands.proofs.members_command.taken_up.Goals as goal
 
 pub returns-then-read-eq0-clause-taken : goal.returns-then-read-eq0-clause-taken

@@ -1,6 +1,7 @@
-use Rattle.std.proofs.Common.{subst, inl, inr, map, Option, List}
+use Rattle.std.proofs.Common.{rules, subst, inr, map, ◌≡◌, Option, List}
 use Rattle.std.proofs.lemmas.Result.{err_from_is_err_and}
-use Rattle.clap.specs.Words.{Row, Text, app_of}
+use Rattle.clap.specs.Words.{Row, Text, app_of, kind_of}
+use Rattle.clap.specs.declared.error.kind.ErrorKind.TheVariants.{ValueValidation}
 use Rattle.command_line.proofs.CommandLine.{not_shown}
 use Rattle.seat_commands.specs.rule.Asking.{IsMet}
 use Rattle.seat_commands.proofs.Asking.{has_kind, is_free, is_plain}
@@ -25,11 +26,9 @@ returns-in-Some-clause-asked g c =
       met = subst P rows_are (rw c.in-Some.is at c.in_ok-met.ensures.met);
     }
 
-pub returns-clause-kind : goal.returns-clause-kind
-returns-clause-kind g c =
+pub returns-in-Ok-clause-kind : goal.returns-in-Ok-clause-kind
+returns-in-Ok-clause-kind g c =
     let app = app_of c.args.command.now in
     let taken = c.in_ok-matches.ensures.kinds (is_free app c.requires) in
-    elim c.unserved.ensures [
-      | inl invalid ↦ inr (app, c.requires, inr (not_shown _ invalid, taken))
-      | inr short ↦ inl short
-    ]
+    let invalid : kind_of c.in-Ok.error ≡ ValueValidation = search rules in
+    inr (app, c.requires, inr (not_shown _ invalid, taken))

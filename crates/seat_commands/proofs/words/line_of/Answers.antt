@@ -1,7 +1,7 @@
 use Rattle.std.proofs.Common.{Some, refl}
 use Rattle.std.proofs.lemmas.Result.{IfOk-weaker}
 use Rattle.clap.specs.Words.{found_of}
-use Rattle.seat_commands.specs.declared.words.Asked.TheVariants.{Play}
+use Rattle.seat_commands.specs.declared.lines.Asked.TheVariants.{Play}
 use Rattle.seat_commands.proofs.Asking.{met_if}
 use Rattle.seat_commands.proofs.words.line_of.Goals as goal
 

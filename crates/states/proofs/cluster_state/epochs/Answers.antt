@@ -1,11 +1,11 @@
 use Rattle.std.specs.Prelude.{◌≡◌, ℕ, ◌+◌, Bool, true, false, [], ◌∷◌, ◌++◌, map, Option, MatchOption}
 use Rattle.std.proofs.Common.{sym, ap, subst, ◌∙◌, arith}
 use Rattle.messages.specs.rule.Shapes.{most_files}
-use Rattle.token_server.specs.code.Readers.{nodes_where}
+use Rattle.token_server.specs.code.Rows.{nodes_where}
 use Rattle.token_server.proofs.ReaderLaws.{nodes_where-missing}
 use Rattle.cluster_core.specs.rule.Parts.{world_state}
 use Rattle.cluster_core.specs.rule.World.{has_file}
-use Rattle.states.specs.declared.told_server.ToldEpoch.{ToldEpoch}
+use Rattle.states.specs.declared.cluster_state.ToldEpoch.{ToldEpoch}
 use Rattle.states.specs.rule.States.{told_epoch}
 use Rattle.states.proofs.ToldLaws.{values-more}
 use Rattle.states.proofs.cluster_state.epochs.Goals.{in-Some+in_ok-push, in_default}

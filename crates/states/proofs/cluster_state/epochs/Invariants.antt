@@ -1,5 +1,5 @@
 use Rattle.std.specs.Prelude.{◌≡◌, map}
-use Rattle.token_server.specs.code.Readers.{nodes_where}
+use Rattle.token_server.specs.code.Rows.{nodes_where}
 use Rattle.cluster_core.specs.rule.Parts.{world_state}
 use Rattle.cluster_core.specs.rule.World.{has_file}
 use Rattle.states.specs.rule.States.{told_epoch}

@@ -2,11 +2,11 @@ use Rattle.std.specs.Prelude.{◌≡◌, ℕ, ◌+◌, Bool, true, false, All, m
 use Rattle.std.proofs.Common.{sym, ap, subst, ◌∙◌, arith}
 use Rattle.std.proofs.lemmas.List.Elements.{All-push}
 use Rattle.model.specs.rule.Limits.{most_nodes}
-use Rattle.token_server.specs.code.Readers.{nodes_where}
+use Rattle.token_server.specs.code.Rows.{nodes_where}
 use Rattle.token_server.proofs.ReaderLaws.{nodes_where-missing}
 use Rattle.cluster_core.specs.rule.Parts.{world_state}
 use Rattle.cluster_core.specs.rule.World.{has_node}
-use Rattle.states.specs.declared.told_node.ToldNode.{ToldNode}
+use Rattle.states.specs.declared.cluster_state.ToldNode.{ToldNode}
 use Rattle.states.specs.rule.States.{IsToldNode}
 use Rattle.states.proofs.ToldLaws.{numbers-more}
 use Rattle.states.proofs.cluster_state.nodes.Goals.{then-has_node+in_ok-of+in_ok-push, else-has_node}

@@ -3,10 +3,10 @@ use Rattle.std.proofs.Common.{sym, ap, subst, ◌∙◌, arith}
 use Rattle.std.proofs.lemmas.List.Elements.{All-push}
 use Rattle.token_server.specs.rule.Parts.{server_state}
 use Rattle.messages.specs.rule.Shapes.{most_files}
-use Rattle.token_server.specs.code.Readers.{nodes_where}
+use Rattle.token_server.specs.code.Rows.{nodes_where}
 use Rattle.token_server.proofs.ReaderLaws.{nodes_where-missing}
 use Rattle.cluster_core.specs.rule.Parts.{world_state}
-use Rattle.states.specs.declared.told_server.ToldServer.{ToldServer}
+use Rattle.states.specs.declared.cluster_state.ToldServer.{ToldServer}
 use Rattle.states.specs.rule.States.{works, IsToldServer}
 use Rattle.states.proofs.ToldLaws.{numbers-more, server-at}
 use Rattle.states.proofs.cluster_state.servers.Goals.{in-Some+in_ok-of+in_ok-push, in_default}

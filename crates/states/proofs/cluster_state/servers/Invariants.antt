@@ -1,5 +1,5 @@
 use Rattle.std.specs.Prelude.{◌≡◌, All, map}
-use Rattle.token_server.specs.code.Readers.{nodes_where}
+use Rattle.token_server.specs.code.Rows.{nodes_where}
 use Rattle.cluster_core.specs.rule.Parts.{world_state}
 use Rattle.states.specs.rule.States.{works, IsToldServer}
 use Rattle.states.proofs.cluster_state.servers.Given as goal

@@ -3,14 +3,14 @@ use Rattle.std.proofs.lemmas.List.{append-nil, drop_all, map-append}
 use Rattle.std.proofs.lemmas.List.Elements.{All-nil, All-push}
 use Rattle.cluster_core.specs.rule.Parts.{world_state}
 use Rattle.cluster_core.proofs.common.Places.{drop_read}
-use Rattle.lock_table.specs.rule.Listing.{IsBefore}
+use Rattle.lock_table.specs.rule.Tables.{IsBefore}
 use Rattle.model.specs.declared.lock_info.LockInfo.{LockInfo}
 use Rattle.node_core.specs.declared.open_call.OpenCall.{OpenCall}
 use Rattle.cluster_core.specs.declared.held_lock.HeldLock.{HeldLock}
 use Rattle.cluster_core.specs.rule.Listings.{Lists}
 use Rattle.states.specs.declared.open_call.OpenState.{OpenState}
 use Rattle.states.specs.code.Blockers.{blocking_of}
-use Rattle.states.specs.rule.OpenCalls.{IsBlocker, IsOpenState}
+use Rattle.states.specs.rule.States.{IsBlocker, IsOpenState}
 use Rattle.states.proofs.Blocking.{lists_blockers}
 use Rattle.states.proofs.open_call.open_states.Goals as goal
 

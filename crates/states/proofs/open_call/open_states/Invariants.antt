@@ -1,6 +1,6 @@
 use Rattle.std.proofs.Common.{◌≡◌, ◌++◌, All, drop, map}
 use Rattle.cluster_core.specs.rule.Parts.{world_state}
-use Rattle.states.specs.rule.OpenCalls.{IsOpenState}
+use Rattle.states.specs.rule.States.{IsOpenState}
 use Rattle.states.proofs.open_call.open_states.Given as goal
 
 abbrev pub invariant-loop-asked : goal.invariant-loop-asked

@@ -1,6 +1,6 @@
 use Rattle.std.proofs.Common.{arith, refl}
 use Rattle.std.proofs.lemmas.Option.{slice_get_read, slice_get_within}
-use Rattle.thread_runs.specs.rule.Lines.{parts}
+use Rattle.thread_runs.specs.rule.Runs.{parts}
 use Rattle.thread_runs.proofs.InCuts.{passed}
 use Rattle.thread_runs.proofs.cut.are_barred.Goals as goal
 

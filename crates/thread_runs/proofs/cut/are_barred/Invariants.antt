@@ -1,4 +1,4 @@
-use Rattle.thread_runs.specs.rule.Lines.{parts}
+use Rattle.thread_runs.specs.rule.Runs.{parts}
 use Rattle.thread_runs.proofs.InCuts.{Passed}
 use Rattle.thread_runs.proofs.cut.are_barred.Given as goal
 

@@ -1,4 +1,4 @@
-use Rattle.thread_runs.specs.rule.Lines.{parts}
+use Rattle.thread_runs.specs.rule.Runs.{parts}
 use Rattle.thread_runs.proofs.Denied.{all_past}
 use Rattle.thread_runs.proofs.denials.may_all_come.Goals as goal
 

@@ -1,7 +1,6 @@
 use Rattle.std.proofs.Common.{drop}
-use Rattle.thread_runs.specs.rule.Lines.{parts}
+use Rattle.thread_runs.specs.rule.Runs.{parts, MayAllCome, first_of}
 use Rattle.thread_runs.specs.code.Awaited.{AreMet, members_of}
-use Rattle.thread_runs.specs.rule.Denials.{MayAllCome, first_of}
 use Rattle.thread_runs.proofs.denials.may_all_come.Given as goal
 
 abbrev pub invariant-loop-line : goal.invariant-loop-line

@@ -1,7 +1,7 @@
 use Rattle.std.proofs.Common.{rules}
 use Rattle.std.proofs.lemmas.Iterator.{YieldsList-from_slice, items_from_collect}
 use Rattle.std.proofs.lemmas.Iterator.Consumers.{YieldsList-at, YieldsList-from_enumerate, YieldsList-from_filter_map}
-use Rattle.thread_runs.specs.rule.Lines.{asked_at}
+use Rattle.thread_runs.specs.rule.Runs.{asked_at}
 use Rattle.thread_runs.proofs.indexed_command.asked_in.Goals as goal
 
 pub returns : goal.returns

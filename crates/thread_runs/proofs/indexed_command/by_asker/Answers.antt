@@ -1,6 +1,6 @@
 use Rattle.std.proofs.Common.{rules, ◌∙◌, sym}
 use Rattle.std.proofs.lemmas.List.Sorted.{answers_always}
-use Rattle.thread_runs.specs.rule.Lines.{asker}
+use Rattle.thread_runs.specs.rule.Runs.{asker}
 use Rattle.thread_runs.specs.declared.indexed_command.IndexedCommand.{IndexedCommand}
 use Rattle.thread_runs.proofs.Askers.{filter_same, ties}
 use Rattle.thread_runs.proofs.indexed_command.by_asker.Goals as goal

@@ -1,6 +1,6 @@
 use Rattle.std.proofs.Common.{arith, refl}
 use Rattle.std.proofs.lemmas.Option.{slice_get_read, slice_get_within}
-use Rattle.thread_runs.specs.rule.Lines.{parts}
+use Rattle.thread_runs.specs.rule.Runs.{parts}
 use Rattle.thread_runs.proofs.InPhases.{none_passed, passed}
 use Rattle.thread_runs.proofs.phase_order.are_phases.Goals as goal
 

@@ -1,4 +1,4 @@
-use Rattle.thread_runs.specs.rule.Lines.{parts}
+use Rattle.thread_runs.specs.rule.Runs.{parts}
 use Rattle.thread_runs.proofs.InPhases.{Passed}
 use Rattle.thread_runs.proofs.phase_order.are_phases.Given as goal
 

@@ -1,7 +1,6 @@
 use Rattle.std.proofs.Common.{subst}
 use Rattle.messages.specs.rule.Shapes.{ShapeFields}
-use Rattle.thread_runs.specs.rule.Denials.{MayAllCome, first_of}
-use Rattle.thread_runs.specs.rule.Lines.{parts}
+use Rattle.thread_runs.specs.rule.Runs.{MayAllCome, first_of, parts}
 use Rattle.thread_runs.proofs.Denied.{if_ok}
 use Rattle.thread_runs.proofs.thread_run.are_of_script.Goals as goal
 

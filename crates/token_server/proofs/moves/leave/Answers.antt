@@ -5,7 +5,7 @@ use Rattle.token_server.specs.declared.token_queue.active_request.ActiveRequest.
 use Rattle.token_server.specs.declared.token_queue.token_request.TokenRequest.{TokenRequest}
 use Rattle.token_server.specs.rule.Requests.{is_of_call}
 use Rattle.token_server.specs.rule.Actives.{requests_of}
-use Rattle.token_server.specs.code.Admitting.{all_but}
+use Rattle.token_server.specs.code.Admissions.{all_but}
 use Rattle.token_server.proofs.AdmittingLaws.{all_but-none, all_but-push}
 use Rattle.token_server.proofs.moves.leave.Goals as goal
 

@@ -1,5 +1,5 @@
 use Rattle.std.proofs.Common.{◌≡◌, take}
-use Rattle.token_server.specs.code.Told.{commands_told}
+use Rattle.token_server.specs.code.Edits.{commands_told}
 use Rattle.token_server.proofs.server.commands_told.Given as goal
 
 abbrev pub invariant-loop-next : goal.invariant-loop-next

@@ -1,13 +1,12 @@
 //! The rows that are in the way of a request.
 ghost use Rattle.std.specs.Prelude.{◌≡◌, ◌+◌, ◌<◌, ◌≤◌, true, ◌==◌, Some, None};
 ghost use Rattle.token_server.specs.rule.Rows.{row_conflicts};
-ghost use Rattle.token_server.specs.code.RowEdits.{rows_overlaid};
-ghost use Rattle.token_server.specs.code.Marks.{NoneExclusive};
+ghost use Rattle.token_server.specs.code.Rows.{rows_overlaid, NoneExclusive};
 
 use super::KnownNodes;
 use crate::known_nodes::row_edit::RowEdit;
 use intervals::span::Span;
-use model::mode::Mode;
+use model::Mode;
 
 impl KnownNodes {
     /// Whether the row of the node (from 1) conflicts, after the edit, with a lock of the mode that another node wants on

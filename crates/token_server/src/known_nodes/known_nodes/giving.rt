@@ -2,7 +2,7 @@
 ghost use Rattle.std.specs.Prelude.{◌≡◌, ◌≢◌, ℕ, ◌+◌, ◌<◌, ◌≤◌, length, IfOk, [], ◌∷◌, ◌++◌, ◌==◌, Some, None};
 ghost use Rattle.std.specs.List.{list_any};
 ghost use Rattle.token_server.specs.rule.RowParts.{known_node_at, rows_of, deaths_of};
-ghost use Rattle.token_server.specs.code.RowEdits.{row_promised, given_to_known_node, with_given_row, given_rows, given_of, rows_overlaid, deaths_overlaid, deaths_with};
+ghost use Rattle.token_server.specs.code.Rows.{row_promised, given_to_known_node, with_given_row, given_rows, given_of, rows_overlaid, deaths_overlaid, deaths_with};
 
 use super::KnownNodes;
 use crate::known_nodes::commands::Commands;

@@ -4,8 +4,7 @@ ghost use Rattle.model.specs.rule.Limits.{IsNumber};
 ghost use Rattle.intervals.specs.rule.Bytes.{largest_around};
 ghost use Rattle.token_server.specs.rule.Rows.{row_conflicts, row_conflicts_at};
 ghost use Rattle.token_server.specs.rule.Serve.{narrowed, granted_span, conflicting_node};
-ghost use Rattle.token_server.specs.code.Told.{with_told};
-ghost use Rattle.token_server.specs.code.Edits.{drafted};
+ghost use Rattle.token_server.specs.code.Edits.{with_told, drafted};
 
 use super::super::Server;
 use super::super::cuts::{cut_by, cut_by_all, cut_granted};
@@ -13,7 +12,7 @@ use crate::change::ServerEdit;
 use crate::sent_command::{SentCommand, told_to};
 use crate::token_queue::token_request::TokenRequest;
 use intervals::span::Span;
-use model::mode::Mode;
+use model::Mode;
 
 impl Server {
     // The largest span within the desired one, around the required one, without bytes that another active request

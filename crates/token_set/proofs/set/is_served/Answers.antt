@@ -1,5 +1,5 @@
 use Rattle.std.proofs.Common.{sym, ◌∙◌}
-use Rattle.token_set.proofs.LevelLaws.{covers-put}
+use Rattle.token_set.proofs.TokenLaws.{covers-put}
 use Rattle.token_set.proofs.set.is_served.Goals as goal
 
 pub returns-then-is_within : goal.returns-then-is_within

@@ -5,9 +5,8 @@ use Rattle.intervals.specs.declared.byte_run.ByteRun.{ByteRun}
 use Rattle.intervals.specs.rule.Runs.{bytes_of}
 use Rattle.intervals.specs.code.Entries.{IsNext}
 use Rattle.model.specs.declared.level.Level.{Level}
-use Rattle.token_set.specs.rule.Tokens.{Token}
-use Rattle.token_set.specs.rule.Tokens.{token_of}
-use Rattle.token_set.specs.code.Runs.{IsNextRun}
+use Rattle.token_set.specs.rule.Tokens.{Token, token_of}
+use Rattle.token_set.specs.code.Sets.{IsNextRun}
 use Rattle.token_set.proofs.set.run_from.Goals as goal
 
 -- the first run that ends at a byte or above it contains the lowest byte from there on that has a level

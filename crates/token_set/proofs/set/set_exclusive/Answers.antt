@@ -1,6 +1,6 @@
 use Rattle.std.proofs.Common.{◌≡◌, ap, arith}
 use Rattle.intervals.specs.rule.Bytes.{Range}
-use Rattle.token_set.proofs.LevelLaws.{done-start, done-more, done-end, done-none}
+use Rattle.token_set.proofs.TokenLaws.{done-start, done-more, done-end, done-none}
 use Rattle.token_set.proofs.set.set_exclusive.Goals as goal
 
 pub loop-lo-init : goal.loop-lo-init

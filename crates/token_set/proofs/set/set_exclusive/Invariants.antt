@@ -1,6 +1,6 @@
 use Rattle.std.proofs.Common.{◌+◌, ◌-◌}
 use Rattle.token_set.specs.rule.Tokens.{token_of}
-use Rattle.token_set.proofs.LevelLaws.{IsDoneTo}
+use Rattle.token_set.proofs.TokenLaws.{IsDoneTo}
 use Rattle.token_set.proofs.set.set_exclusive.Given as goal
 
 abbrev pub invariant-loop-lo : goal.invariant-loop-lo

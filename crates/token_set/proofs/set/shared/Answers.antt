@@ -3,7 +3,7 @@ use Rattle.intervals.specs.rule.Bytes.{put}
 use Rattle.model.specs.declared.level.Level.TheVariants.{Shared, Exclusive}
 use Rattle.token_set.specs.code.Sets.{at_exclusive}
 use Rattle.token_set.specs.rule.Tokens.{token_of}
-use Rattle.token_set.proofs.LevelLaws.{raised-is}
+use Rattle.token_set.proofs.TokenLaws.{raised-is}
 use Rattle.token_set.proofs.set.shared.Goals as goal
 
 pub returns : goal.returns

@@ -2,7 +2,7 @@ use Rattle.std.proofs.Common.{ap, ◌∙◌}
 use Rattle.model.specs.declared.level.Level.TheVariants.{Shared}
 use Rattle.token_set.specs.code.Sets.{at_exclusive}
 use Rattle.token_set.specs.rule.Tokens.{token_of}
-use Rattle.token_set.proofs.LevelLaws.{lowered-is}
+use Rattle.token_set.proofs.TokenLaws.{lowered-is}
 use Rattle.token_set.proofs.set.unexclusive.Goals as goal
 
 pub returns : goal.returns

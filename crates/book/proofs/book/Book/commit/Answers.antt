@@ -6,11 +6,10 @@ use Rattle.messages.specs.declared.event.Event.{Event}
 use Rattle.messages.specs.declared.outcome.Outcome.{Outcome}
 use Rattle.cluster_core.specs.rule.Parts.{world_state}
 use Rattle.cluster_core.specs.rule.Journals.{RunFields, GoesOn}
-use Rattle.book.specs.rule.Fields.{SeatFields, StandingFields, standing_state, seat_state, StampFields}
-use Rattle.book.specs.rule.States.{StepsTo}
+use Rattle.book.specs.rule.States.{SeatFields, StandingFields, standing_state, seat_state, StampFields, StepsTo}
 use Rattle.book.specs.rule.Commits.{Commits, seen_at}
 use Rattle.book.proofs.Committed.{committed, committed_reached}
-use Rattle.book.specs.code.LastSpots.{AreReached, Noted}
+use Rattle.book.specs.code.Copies.{AreReached, Noted}
 use Rattle.book.proofs.book.Book.commit.Given.{Over}
 use Rattle.book.proofs.book.Book.commit.Goals as goal
 

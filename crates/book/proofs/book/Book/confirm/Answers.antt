@@ -1,8 +1,8 @@
 use Rattle.std.proofs.Common.{◌≡◌, List, sym, ap, ◌∙◌, subst}
 use Rattle.messages.specs.declared.entry.Entry.{Entry}
 use Rattle.cluster_core.specs.rule.Journals.{RunFields}
-use Rattle.book.specs.rule.Receipts.{IsStampOf, Holds}
-use Rattle.book.proofs.Held.{held_by_stamps, says_yes}
+use Rattle.book.specs.rule.Commits.{IsStampOf, Holds}
+use Rattle.book.proofs.Steps.{held_by_stamps, says_yes}
 use Rattle.book.proofs.book.Book.confirm.Goals as goal
 
 pub returns-clause-made : goal.returns-clause-made

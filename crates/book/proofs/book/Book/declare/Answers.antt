@@ -8,8 +8,8 @@ use Rattle.cluster_core.specs.rule.Parts.{world_state}
 use Rattle.cluster_core.proofs.steps.CertainRefusals.{err_is, declare-unspent}
 use Rattle.messages.specs.rule.Messages.{sending}
 use Rattle.cluster_core.specs.rule.Journals.{RunFields}
-use Rattle.book.specs.rule.Fields.{StampFields}
-use Rattle.book.specs.rule.Turns.{Declared}
+use Rattle.book.specs.rule.States.{StampFields}
+use Rattle.book.specs.rule.Commits.{Declared}
 use Rattle.book.proofs.Committed.{declared, turned_reached}
 use Rattle.book.proofs.book.Book.declare.Goals as goal
 

@@ -8,8 +8,8 @@ use Rattle.cluster_core.specs.rule.Parts.{world_state}
 use Rattle.cluster_core.proofs.steps.CertainRefusals.{err_is, fail-unspent}
 use Rattle.messages.specs.rule.Messages.{sending}
 use Rattle.cluster_core.specs.rule.Journals.{RunFields}
-use Rattle.book.specs.rule.Fields.{StampFields}
-use Rattle.book.specs.rule.Turns.{Failed}
+use Rattle.book.specs.rule.States.{StampFields}
+use Rattle.book.specs.rule.Commits.{Failed}
 use Rattle.book.proofs.Committed.{failed, turned_reached}
 use Rattle.book.proofs.book.Book.fail_server.Goals as goal
 

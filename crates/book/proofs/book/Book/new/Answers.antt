@@ -1,7 +1,6 @@
 use Rattle.std.proofs.Common.{sym, subst}
 use Rattle.cluster_core.specs.rule.World.{WorldState}
-use Rattle.book.specs.rule.States.{HasState}
-use Rattle.book.specs.rule.Fields.{seat_state}
+use Rattle.book.specs.rule.States.{HasState, seat_state}
 use Rattle.book.proofs.book.Book.new.Goals as goal
 
 pub returns-clause-seats : goal.returns-clause-seats

@@ -8,9 +8,9 @@ use Rattle.cluster_core.specs.rule.Parts.{world_state}
 use Rattle.cluster_core.specs.rule.Journals.{RunFields}
 use Rattle.cluster_core.proofs.steps.Steps.{kept_taken}
 use Rattle.book.specs.declared.state.State.TheVariants.{OfNode}
-use Rattle.book.specs.rule.Fields.{SeatFields}
-use Rattle.book.specs.rule.Turns.{Restarted}
-use Rattle.book.proofs.Turns.{restarted_mine}
+use Rattle.book.specs.rule.States.{SeatFields}
+use Rattle.book.specs.rule.Commits.{Restarted}
+use Rattle.book.proofs.Steps.{restarted_mine}
 use Rattle.book.proofs.Committed.{restarted, turned_reached}
 use Rattle.book.proofs.book.Book.restart.Goals as goal
 

@@ -8,9 +8,9 @@ use Rattle.cluster_core.specs.rule.Parts.{world_state}
 use Rattle.cluster_core.specs.rule.Journals.{RunFields}
 use Rattle.cluster_core.proofs.steps.Steps.{kept_taken}
 use Rattle.book.specs.declared.state.State.TheVariants.{OfServer}
-use Rattle.book.specs.rule.Fields.{SeatFields, StampFields}
-use Rattle.book.specs.rule.Turns.{Started}
-use Rattle.book.proofs.Turns.{started_mine}
+use Rattle.book.specs.rule.States.{SeatFields, StampFields}
+use Rattle.book.specs.rule.Commits.{Started}
+use Rattle.book.proofs.Steps.{started_mine}
 use Rattle.book.proofs.Committed.{started, turned_reached}
 use Rattle.book.proofs.book.Book.start_server.Goals as goal
 

@@ -1,5 +1,5 @@
 use Rattle.std.proofs.Common.{◌<◌, arith}
-use Rattle.book.proofs.Seats.{node_more}
+use Rattle.book.proofs.Steps.{node_more}
 use Rattle.book.proofs.book.beginnings.node_seats.Goals as goal
 
 pub loop-index-preserved : goal.loop-index-preserved

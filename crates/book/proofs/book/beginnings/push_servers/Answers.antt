@@ -1,4 +1,4 @@
-use Rattle.book.proofs.Seats.{server_more}
+use Rattle.book.proofs.Steps.{server_more}
 use Rattle.book.proofs.book.beginnings.push_servers.Goals as goal
 
 pub loop-index-preserved : goal.loop-index-preserved

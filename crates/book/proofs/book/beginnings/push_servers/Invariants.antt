@@ -1,5 +1,5 @@
 use Rattle.std.proofs.Common.{◌≡◌, ◌+◌, length}
-use Rattle.book.specs.rule.Seats.{AreFirst}
+use Rattle.book.specs.rule.Commits.{AreFirst}
 use Rattle.book.proofs.book.beginnings.push_servers.Given as goal
 
 abbrev pub invariant-loop-index : goal.invariant-loop-index

@@ -1,7 +1,7 @@
 use Rattle.std.proofs.Common.{◌≡◌, ap, sym, ◌∙◌, slice_get, subst, arith}
 use Rattle.std.proofs.lemmas.Bool.Decides.{nat_tests}
 use mathlib.Core.List.{IsPrefix}
-use Rattle.book.proofs.Beginnings.{prefix_get}
+use Rattle.book.proofs.Adding.{prefix_get}
 use Rattle.book.proofs.spot.Spot.is_at.Goals as goal
 
 pub returns-clause-items : goal.returns-clause-items

@@ -1,7 +1,5 @@
 use Rattle.std.proofs.Common.{◌≡◌, ◌∙◌, sym, subst}
-use Rattle.book.specs.rule.States.{incarnation_of}
-use Rattle.book.specs.rule.Fields.{StandingFields, standing_state}
-use Rattle.book.specs.rule.States.{state_of}
+use Rattle.book.specs.rule.States.{incarnation_of, StandingFields, standing_state, state_of}
 use Rattle.book.proofs.Copies.{incarnation_stays}
 use Rattle.book.proofs.standing.Standing.incarnation.Goals as goal
 

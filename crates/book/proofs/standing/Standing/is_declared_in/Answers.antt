@@ -1,8 +1,6 @@
 use Rattle.std.proofs.Common.{◌≡◌, ◌∙◌, sym, subst}
 use Rattle.cluster_core.specs.rule.Parts.{world_state}
-use Rattle.book.specs.rule.States.{is_declared}
-use Rattle.book.specs.rule.Fields.{StandingFields, standing_state}
-use Rattle.book.specs.rule.States.{state_of}
+use Rattle.book.specs.rule.States.{is_declared, StandingFields, standing_state, state_of}
 use Rattle.book.proofs.Copies.{declared_stays}
 use Rattle.book.proofs.standing.Standing.is_declared_in.Goals as goal
 

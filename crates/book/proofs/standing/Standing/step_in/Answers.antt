@@ -1,8 +1,6 @@
 use Rattle.std.proofs.Common.{sym, subst}
 use Rattle.messages.specs.declared.event.Event.{Event}
-use Rattle.book.specs.rule.States.{ActorState, MayTake}
-use Rattle.book.specs.rule.Fields.{StandingFields}
-use Rattle.book.specs.rule.States.{state_of}
+use Rattle.book.specs.rule.States.{ActorState, MayTake, StandingFields, state_of}
 use Rattle.book.proofs.Copies.{plans_on}
 use Rattle.book.proofs.standing.Standing.step_in.Goals as goal
 

@@ -1,6 +1,5 @@
 use Rattle.std.proofs.Common.{◌≡◌, ap, sym, ◌∙◌, Some, slice_get, [], ◌∷◌, ◌++◌}
-use Rattle.book.proofs.Adding.{adds_moves, added}
-use Rattle.book.proofs.Beginnings.{last_get}
+use Rattle.book.proofs.Adding.{adds_moves, added, last_get}
 use Rattle.book.proofs.trail.Trail.push.Goals as goal
 
 pub compare_exchange-found-requires : goal.compare_exchange-found-requires

@@ -1,4 +1,4 @@
-use Rattle.client_history.specs.code.OwnerCalls.{AreOwnerCalls}
+use Rattle.client_history.specs.code.OpenCalls.{AreOwnerCalls}
 use Rattle.client_history.proofs.owner_calls.OwnerCalls.new.Given as goal
 
 abbrev pub invariant-loop-index : goal.invariant-loop-index

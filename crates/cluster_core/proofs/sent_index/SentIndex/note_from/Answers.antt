@@ -1,5 +1,5 @@
 use Rattle.std.proofs.Common.{◌≡◌, ℕ, arith, length, subst}
-use Rattle.cluster_core.specs.code.SentIndexes.{KnowsFirst}
+use Rattle.cluster_core.specs.code.Changes.{KnowsFirst}
 use Rattle.cluster_core.proofs.sent_index.SentIndex.note_from.Goals as goal
 
 pub returns : goal.returns

@@ -1,7 +1,7 @@
 use Rattle.std.proofs.Common.{◌+◌, ◌≤◌, length}
 use Rattle.std.specs.HashMap.{spare as spare_places}
 use Rattle.std.specs.Vec.{vec_capacity}
-use Rattle.cluster_core.specs.code.SentIndexes.{KnowsFirst}
+use Rattle.cluster_core.specs.code.Changes.{KnowsFirst}
 use Rattle.cluster_core.proofs.sent_index.SentIndex.note_from.Given as goal
 
 abbrev pub invariant-loop-place : goal.invariant-loop-place

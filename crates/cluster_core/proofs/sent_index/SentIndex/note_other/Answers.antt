@@ -1,5 +1,5 @@
 use Rattle.std.proofs.Common.{◌≡◌, true, List, ℕ, sym, ap, ◌∙◌}
-use Rattle.cluster_core.specs.code.SentIndexes.{stands_among}
+use Rattle.cluster_core.specs.code.Changes.{stands_among}
 use Rattle.cluster_core.proofs.steps.KnownMessages.{knows_other, knows_among, get_there}
 use Rattle.cluster_core.proofs.sent_index.SentIndex.note_other.Goals as goal
 

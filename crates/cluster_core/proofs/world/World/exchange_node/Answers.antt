@@ -4,7 +4,7 @@ use Rattle.std.proofs.lemmas.List.{get_or_default, get_or-set_same}
 use Rattle.node_core.specs.rule.Parts.{NodeParts, node_state}
 use Rattle.cluster_core.specs.rule.Parts.{WorldParts, IsWorld, world_state}
 use Rattle.cluster_core.specs.rule.Actors.{HasNode}
-use Rattle.cluster_core.specs.code.Copies.{with_node_copy}
+use Rattle.cluster_core.specs.code.Changes.{with_node_copy}
 use Rattle.cluster_core.proofs.steps.Copies.{node_place, node_copied, node_copy_world, node_read}
 use Rattle.cluster_core.proofs.world.World.exchange_node.Goals as goal
 

@@ -4,7 +4,7 @@ use Rattle.std.proofs.lemmas.List.{get_or_default, get_or-set_same}
 use Rattle.token_server.specs.rule.Parts.{ServerParts, server_state}
 use Rattle.cluster_core.specs.rule.Parts.{WorldParts, IsWorld, world_state}
 use Rattle.cluster_core.specs.rule.Actors.{HasServer}
-use Rattle.cluster_core.specs.code.Copies.{with_server_copy}
+use Rattle.cluster_core.specs.code.Changes.{with_server_copy}
 use Rattle.cluster_core.proofs.steps.Copies.{server_place, server_copied, server_copy_world, server_read}
 use Rattle.cluster_core.proofs.world.World.exchange_server.Goals as goal
 

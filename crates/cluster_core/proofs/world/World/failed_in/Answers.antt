@@ -1,6 +1,5 @@
 use Rattle.std.proofs.Common.{◌≡◌, ◌∙◌}
-use Rattle.messages.specs.rule.Members.{was_declared}
-use Rattle.messages.specs.rule.Parts.{members_state}
+use Rattle.messages.specs.rule.Members.{was_declared, members_state}
 use Rattle.cluster_core.specs.rule.World.{has_failed}
 use Rattle.cluster_core.specs.rule.Parts.{WorldParts, world_state}
 use Rattle.cluster_core.proofs.steps.EpochSteps.{failed_there, opened}

@@ -2,7 +2,7 @@ use Rattle.std.proofs.Common.{◌≡◌, ◌∙◌, ◌+◌, List, ◌++◌, ap,
 use Rattle.std.specs.Ordering.{is_lt}
 use Rattle.std.proofs.lemmas.Fn.{always_returns_same}
 use Rattle.model.specs.declared.lock_info.LockInfo.{LockInfo}
-use Rattle.lock_table.specs.code.Listing.{lock_cmp}
+use Rattle.lock_table.specs.code.Blockers.{lock_cmp}
 use Rattle.lock_table.proofs.ListingLemmas.{listing_from, locks_weak}
 use Rattle.node_core.specs.rule.Parts.{node_state}
 use Rattle.cluster_core.specs.rule.Parts.{WorldParts, world_state}

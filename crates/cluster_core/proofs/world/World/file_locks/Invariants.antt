@@ -1,4 +1,4 @@
-use Rattle.lock_table.specs.rule.Listing.{ListsRegions}
+use Rattle.lock_table.specs.rule.Tables.{ListsRegions}
 use Rattle.cluster_core.specs.rule.Parts.{world_state}
 use Rattle.cluster_core.proofs.listings.LockLists.{first_locks}
 use Rattle.cluster_core.proofs.world.World.file_locks.Given as goal

@@ -1,7 +1,6 @@
 use Rattle.std.specs.Option.{is_some}
 use Rattle.std.proofs.Common.{◌≡◌, ℕ, Option, ap, ◌∙◌}
-use Rattle.messages.specs.rule.Members.{live_incarnation}
-use Rattle.messages.specs.rule.Parts.{members_state}
+use Rattle.messages.specs.rule.Members.{live_incarnation, members_state}
 use Rattle.cluster_core.specs.rule.Parts.{WorldParts, alive_at}
 use Rattle.cluster_core.proofs.steps.MemberSteps.{alive_there, opened}
 use Rattle.cluster_core.proofs.world.World.is_alive.Goals as goal

@@ -1,6 +1,6 @@
 use Rattle.std.proofs.Common.{◌∙◌, ap, refl, sym, subst, Err}
 use Rattle.std.proofs.lemmas.Result.{err_from_is_err_and}
-use Rattle.messages.specs.rule.Refusals.{refused_by}
+use Rattle.messages.specs.rule.Entries.{refused_by}
 use Rattle.messages.specs.declared.refusal.Refused.{Refused}
 use Rattle.messages.specs.declared.event.Event.TheVariants.{Deliver}
 use Rattle.messages.specs.declared.actor.Actor.TheVariants.{Node as ANode}

@@ -1,7 +1,7 @@
 use Rattle.std.proofs.Common.{◌≡◌, ◌<◌, ◌≤◌, ◌∙◌, ◌++◌, false, List, ap, sym, subst, Ok, Err}
 use Rattle.std.proofs.lemmas.Result.{err_from_is_err_and}
 use Rattle.messages.specs.declared.refusal.Refused.{Refused}
-use Rattle.messages.specs.rule.Parts.{incarnation_in}
+use Rattle.messages.specs.rule.Members.{incarnation_in}
 use Rattle.messages.specs.declared.message.Message.{Message}
 use Rattle.token_server.specs.rule.Parts.{ServerParts}
 use Rattle.cluster_core.specs.rule.World.{journal_limit, most_incarnations}

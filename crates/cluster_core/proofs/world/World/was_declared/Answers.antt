@@ -1,6 +1,5 @@
 use Rattle.std.proofs.Common.{◌≡◌, ◌∙◌}
-use Rattle.messages.specs.rule.Members.{was_declared as was_declared_of}
-use Rattle.messages.specs.rule.Parts.{members_state}
+use Rattle.messages.specs.rule.Members.{was_declared as was_declared_of, members_state}
 use Rattle.cluster_core.specs.rule.World.{was_declared}
 use Rattle.cluster_core.specs.rule.Parts.{WorldParts, world_state}
 use Rattle.cluster_core.proofs.steps.MemberSteps.{declared_there, opened}

@@ -1,7 +1,6 @@
 use Rattle.std.specs.Option.{is_some}
 use Rattle.std.proofs.Common.{◌≡◌, ℕ, Option, ap, ◌∙◌}
-use Rattle.messages.specs.rule.Members.{live_incarnation}
-use Rattle.messages.specs.rule.Parts.{members_state}
+use Rattle.messages.specs.rule.Members.{live_incarnation, members_state}
 use Rattle.cluster_core.specs.rule.Parts.{WorldParts, works_at}
 use Rattle.cluster_core.proofs.steps.EpochSteps.{works_there, opened}
 use Rattle.cluster_core.proofs.world.World.works.Goals as goal

@@ -1,6 +1,6 @@
 use Rattle.std.proofs.Common.{◌==◌}
 use Rattle.model.proofs.SearchLaws.{Failed}
-use Rattle.descriptors.specs.code.Counts.{count_of}
+use Rattle.descriptors.specs.code.Rows.{count_of}
 use Rattle.descriptors.proofs.counts.Counts.lowest_unused.Given as goal
 
 abbrev pub invariant-loop-number : goal.invariant-loop-number

@@ -2,7 +2,7 @@ use Rattle.std.proofs.Common.{◌≡◌, None, true, ap, arith, sym, subst, ◌�
 use Rattle.std.proofs.Math.Seq.{take-append_seam}
 use Rattle.model.specs.rule.Descriptors.{with_process}
 use Rattle.descriptors.specs.rule.Rows.{processes}
-use Rattle.descriptors.specs.code.Counts.{AreCounts, places}
+use Rattle.descriptors.specs.code.Rows.{AreCounts, places}
 use Rattle.descriptors.proofs.RowLaws.{idle-opened}
 use Rattle.descriptors.proofs.CountLaws.{counts-begun}
 use Rattle.descriptors.proofs.processes.Processes.begin.Goals as goal

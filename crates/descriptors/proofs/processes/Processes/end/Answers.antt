@@ -2,7 +2,7 @@ use Rattle.std.proofs.Common.{◌≡◌, ◌+◌, ℕ, None, false, ap, arith, s
 use Rattle.std.proofs.Math.Seq.{take-append_seam}
 use Rattle.model.specs.rule.Descriptors.{with_process}
 use Rattle.descriptors.specs.rule.Rows.{processes}
-use Rattle.descriptors.specs.code.Counts.{AreCounts, count_of, references_below, places}
+use Rattle.descriptors.specs.code.Rows.{AreCounts, count_of, references_below, places}
 use Rattle.descriptors.proofs.RowLaws.{number-or-none, processes-past}
 use Rattle.descriptors.proofs.CountLaws.{counts-ended}
 use Rattle.descriptors.proofs.processes.Processes.end.Goals as goal

@@ -3,9 +3,8 @@ use Rattle.std.proofs.Math.Seq.{take-append_seam}
 use Rattle.std.proofs.lemmas.List.{length-set}
 use Rattle.std.specs.Prelude.{not}
 use Rattle.model.specs.rule.Descriptors.{with_descriptor, is_open}
-use Rattle.descriptors.specs.code.Rows.{resolved}
+use Rattle.descriptors.specs.code.Rows.{resolved, AreCounts, count_of, places}
 use Rattle.descriptors.specs.rule.Rows.{processes}
-use Rattle.descriptors.specs.code.Counts.{AreCounts, count_of, places}
 use Rattle.descriptors.proofs.RowLaws.{runs_within, processes-runs, opened-number, resolved-opened, resolved-runs}
 use Rattle.descriptors.proofs.CountLaws.{counts-closed, count-closed, descriptor-counted}
 use Rattle.descriptors.proofs.processes.Processes.free.Goals as goal

@@ -3,11 +3,10 @@ use Rattle.std.proofs.Math.Seq.{take-append_seam}
 use Rattle.std.proofs.lemmas.List.{length-set}
 use Rattle.model.specs.rule.Descriptors.{with_descriptor}
 use Rattle.descriptors.specs.rule.Rows.{processes}
-use Rattle.descriptors.specs.code.Counts.{AreCounts, count_of, places}
+use Rattle.descriptors.specs.code.Rows.{AreCounts, count_of, places}
 use Rattle.descriptors.specs.code.Edits.{IsKnown}
 use Rattle.descriptors.proofs.RowLaws.{runs_within, runs-numbered, processes-runs}
-use Rattle.descriptors.proofs.CountLaws.{counts-opened, known-lowest, room-for-one}
-use Rattle.descriptors.proofs.PlaceLaws.{known-place}
+use Rattle.descriptors.proofs.CountLaws.{counts-opened, known-lowest, room-for-one, known-place}
 use Rattle.descriptors.proofs.processes.Processes.refer.Goals as goal
 
 pub refer-requires-clause-within : goal.refer-requires-clause-within

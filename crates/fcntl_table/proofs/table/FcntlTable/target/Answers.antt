@@ -3,8 +3,7 @@ use Rattle.std.proofs.lemmas.Int.{to_z-of_z}
 use mir.Val.{to_z, of_z}
 use Rattle.intervals.specs.rule.Segment.{seg}
 use Rattle.model.specs.declared.process.Process.{Process}
-use Rattle.fcntl_table.proofs.TargetLaws.{segment-is}
-use Rattle.fcntl_table.proofs.TableLaws.{target-of, target-refused}
+use Rattle.fcntl_table.proofs.TableLaws.{segment-is, target-of, target-refused}
 use Rattle.fcntl_table.proofs.table.FcntlTable.target.Goals as goal
 
 pub returns-in-Ok-clause-value : goal.returns-in-Ok-clause-value

@@ -1,6 +1,6 @@
 use Rattle.std.proofs.Common.{sym, subst, arith}
 use Rattle.std.specs.List.{All}
-use Rattle.history_text.specs.rule.Losses.{IsLoss}
+use Rattle.history_text.specs.code.Readings.{IsLoss}
 use Rattle.history_text.proofs.drops.Losses.of_file.Goals as goal
 
 pub returns-in-Some : goal.returns-in-Some

@@ -1,5 +1,5 @@
 use Rattle.std.proofs.lemmas.Result.{on_ok_weaker}
-use Rattle.history_text.proofs.ReadLaws.{read_other}
+use Rattle.history_text.proofs.HistoryLaws.{read_other}
 use Rattle.history_text.proofs.history_reader.HistoryReader.take.Goals as goal
 
 pub returns-in_default-clause-read : goal.returns-in_default-clause-read

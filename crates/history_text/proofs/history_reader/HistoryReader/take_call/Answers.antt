@@ -1,16 +1,15 @@
 use Rattle.std.proofs.Common.{ℕ, ◌+◌, ◌≤◌, List, refl, ap, sym, subst, ◌∙◌, arith}
 use Rattle.texts.specs.rule.Reads.{IsWithin}
 use Rattle.history_text.specs.declared.owners.Life.{Life}
-use Rattle.history_text.specs.rule.Files.{IsCallOf}
-use Rattle.history_text.specs.rule.Readings.{IsWhole}
+use Rattle.history_text.specs.code.Readings.{IsCallOf, IsWhole}
 use Rattle.history_text.proofs.FileLaws.{files_extend}
 use Rattle.history_text.proofs.history_reader.HistoryReader.take_call.Goals as goal
 
-pub returns-in-Exits-clause-read : goal.returns-in-Exits-clause-read
-returns-in-Exits-clause-read c =
+pub returns-in_default-clause-read : goal.returns-in_default-clause-read
+returns-in_default-clause-read c =
     let old : List Life = c.args.self.now.known.owners.lives.items in
     let new : List Life = c.next_call.new.self.owners.lives.items in
-    let learns = c.in_ok-owner.ensures.learns in
+    let learns = c.in-Ok.ensures.learns in
     let within : IsWithin 1 c.args.line c.args.line = (c.requires.line, omega arith) in
     let le : c.args.line ≤ c.args.line = omega arith in
     record {
@@ -26,10 +25,10 @@ pub returns-in-None-clause-read : goal.returns-in-None-clause-read
 returns-in-None-clause-read c =
     let old : List Life = c.args.self.now.known.owners.lives.items in
     let new : List Life = c.next_call.new.self.owners.lives.items in
-    let learns = c.in_ok-owner.ensures.learns in
+    let learns = c.in-Ok.ensures.learns in
     let within : IsWithin 1 c.args.line c.args.line = (c.requires.line, omega arith) in
     let le : c.args.line ≤ c.args.line = omega arith in
-    let added = c.in_ok-add_file-in-Asks.ensures in
+    let added = c.in_ok-add_file.ensures in
     record {
       sound = learns.sound;
       lives = learns.lives c.args.line within c.requires.read.lives;
@@ -43,19 +42,19 @@ pub returns-in_ok-push_call-in-One-clause-read : goal.returns-in_ok-push_call-in
 returns-in_ok-push_call-in-One-clause-read c =
     let old : List Life = c.args.self.now.known.owners.lives.items in
     let new : List Life = c.next_call.new.self.owners.lives.items in
-    let learns = c.in_ok-owner.ensures.learns in
-    let begun = c.in_ok-owner.ensures.begun in
+    let learns = c.in-Ok.ensures.learns in
+    let begun = c.in-Ok.ensures.begun in
     let within : IsWithin 1 c.args.line c.args.line = (c.requires.line, omega arith) in
     let le : c.args.line ≤ c.args.line = omega arith in
-    let added = c.in_ok-add_file-in-Asks.ensures in
+    let added = c.in_ok-add_file.ensures in
     let pushed = c.in_ok-push_call-in-One.ensures in
     let is : IsCallOf new c.call_of-call.result = subst (IsCallOf new) (sym c.call_of-call.ensures) (record {
-      number = c.in_ok-owner.field-0.owner;
+      number = c.in-Ok.call.owner;
       life = begun.0;
       known = begun.1;
       owner = refl;
       begun = begun.2;
-      timed = c.in_ok-owner.ensures.timed;
+      timed = c.in-Ok.ensures.timed;
       goes_on = refl;
     }) in
     record {
@@ -71,28 +70,28 @@ pub returns-in_ok-push_steps-in-Two-clause-read : goal.returns-in_ok-push_steps-
 returns-in_ok-push_steps-in-Two-clause-read c =
     let old : List Life = c.args.self.now.known.owners.lives.items in
     let new : List Life = c.next_call.new.self.owners.lives.items in
-    let learns = c.in_ok-owner.ensures.learns in
-    let begun = c.in_ok-owner.ensures.begun in
+    let learns = c.in-Ok.ensures.learns in
+    let begun = c.in-Ok.ensures.begun in
     let within : IsWithin 1 c.args.line c.args.line = (c.requires.line, omega arith) in
     let le : c.args.line ≤ c.args.line = omega arith in
-    let added = c.in_ok-add_file-in-Asks.ensures in
+    let added = c.in_ok-add_file.ensures in
     let pushed = c.in_ok-push_steps-in-Two.ensures in
     let first : IsCallOf new c.call_of-first.result = subst (IsCallOf new) (sym c.call_of-first.ensures) (record {
-      number = c.in_ok-owner.field-0.owner;
+      number = c.in-Ok.call.owner;
       life = begun.0;
       known = begun.1;
       owner = refl;
       begun = begun.2;
-      timed = c.in_ok-owner.ensures.timed;
+      timed = c.in-Ok.ensures.timed;
       goes_on = refl;
     }) in
     let second : IsCallOf new c.call_of-second.result = subst (IsCallOf new) (sym c.call_of-second.ensures) (record {
-      number = c.in_ok-owner.field-0.owner;
+      number = c.in-Ok.call.owner;
       life = begun.0;
       known = begun.1;
       owner = refl;
       begun = begun.2;
-      timed = c.in_ok-owner.ensures.timed;
+      timed = c.in-Ok.ensures.timed;
       goes_on = refl;
     }) in
     record {

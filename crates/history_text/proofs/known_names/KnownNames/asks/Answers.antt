@@ -1,10 +1,10 @@
 use Rattle.history_text.specs.declared.known_names.KnownNames.{KnownNames}
-use Rattle.history_text.specs.rule.Readings.{Learns}
-use Rattle.history_text.proofs.LifeLaws.{extends_none, learns_both}
+use Rattle.history_text.specs.code.Readings.{Learns}
+use Rattle.history_text.proofs.OwnerLaws.{extends_none, learns_both}
 use Rattle.history_text.proofs.known_names.KnownNames.asks.Goals as goal
 
-pub returns-clause-learns : goal.returns-clause-learns
-returns-clause-learns c = λ line.
+pub returns-in-Ok-clause-learns : goal.returns-in-Ok-clause-learns
+returns-in-Ok-clause-learns c = λ line.
     let old : KnownNames = c.args.self.now in
     let mid : KnownNames = record { owners = old.owners; files = c.number_of.new.self } in
     let first : Learns line old mid = record {
@@ -12,4 +12,4 @@ returns-clause-learns c = λ line.
       extends = extends_none old.owners.lives.items;
       lives = λ lines within all. all;
     } in
-    learns_both line old mid c.told.new.self first (c.in_ok-told.ensures.learns line)
+    learns_both line old mid c.told.new.self first (c.in-Ok.ensures.learns line)

@@ -1,6 +1,6 @@
 use Rattle.history_text.specs.declared.known_names.KnownNames.{KnownNames}
-use Rattle.history_text.specs.rule.Readings.{Learns}
-use Rattle.history_text.proofs.LifeLaws.{learns_both}
+use Rattle.history_text.specs.code.Readings.{Learns}
+use Rattle.history_text.proofs.OwnerLaws.{learns_both}
 use Rattle.history_text.proofs.known_names.KnownNames.caller.Goals as goal
 
 pub begin_call-requires-clause-owners : goal.begin_call-requires-clause-owners

@@ -2,7 +2,7 @@ use Rattle.std.proofs.Common.{◌≡◌, ℕ, List, [], ◌∷◌, ◌++◌, len
 use Rattle.std.proofs.lemmas.List.{length-map}
 use Rattle.std.specs.String.{string_bytes}
 use Rattle.history_text.specs.rule.Owners.{AreDistinct}
-use Rattle.history_text.proofs.NameLaws.{added_count, added_last, added_name, distinct_names, found_name}
+use Rattle.history_text.proofs.OwnerLaws.{added_count, added_last, added_name, distinct_names, found_name}
 use Rattle.history_text.proofs.names.Names.number_of.Goals as goal
 
 pub returns-in-Some-clause-named : goal.returns-in-Some-clause-named

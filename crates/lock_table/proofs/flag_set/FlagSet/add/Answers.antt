@@ -1,5 +1,5 @@
 use Rattle.std.proofs.Common.{rules}
-use Rattle.lock_table.proofs.FlagLemmas.{has-kept, has-added}
+use Rattle.lock_table.proofs.PageLemmas.{has-kept, has-added}
 use Rattle.lock_table.proofs.flag_set.FlagSet.add.Goals as goal
 
 pub returns-clause-kept : goal.returns-clause-kept

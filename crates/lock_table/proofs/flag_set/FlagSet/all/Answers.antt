@@ -1,4 +1,4 @@
-use Rattle.lock_table.proofs.FlagLemmas.{has_all}
+use Rattle.lock_table.proofs.PageLemmas.{has_all}
 use Rattle.lock_table.proofs.flag_set.FlagSet.all.Goals as goal
 
 pub returns : goal.returns

@@ -1,5 +1,5 @@
 use Rattle.std.proofs.Common.{rules}
-use Rattle.lock_table.proofs.FlagLemmas.{has-kept, has-more}
+use Rattle.lock_table.proofs.PageLemmas.{has-kept, has-more}
 use Rattle.lock_table.proofs.flag_set.FlagSet.join.Goals as goal
 
 pub loop-i-preserved : goal.loop-i-preserved

@@ -1,5 +1,5 @@
 use Rattle.std.proofs.Common.{ℕ, ◌<◌, ◌/◌}
-use Rattle.lock_table.specs.code.Pages.{HasFlag}
+use Rattle.lock_table.specs.code.Rows.{HasFlag}
 use Rattle.lock_table.proofs.flag_set.FlagSet.join.Given as goal
 
 abbrev pub invariant-loop-i : goal.invariant-loop-i

@@ -1,5 +1,5 @@
 use Rattle.std.proofs.Common.{arith}
-use Rattle.lock_table.proofs.FlagLemmas.{next_in, next_past}
+use Rattle.lock_table.proofs.PageLemmas.{next_in, next_past}
 use Rattle.lock_table.proofs.flag_set.FlagSet.next.Goals as goal
 
 pub returns-then-low-lt-WORD-clause-none_below : goal.returns-then-low-lt-WORD-clause-none_below

@@ -1,11 +1,10 @@
 use Rattle.std.proofs.Common.{inl, inr, arith}
 use Rattle.std.proofs.lemmas.Bool.{both_ways}
 use Rattle.intervals.specs.rule.Runs.{value_at}
-use Rattle.lock_table.specs.code.Rows.{HoldsSome}
+use Rattle.lock_table.specs.code.Rows.{HoldsSome, rows_before, IsGapIn, HasRoom}
 use Rattle.lock_table.specs.rule.Tables.{all_rows}
-use Rattle.lock_table.specs.code.Blocks.{rows_before, IsGapIn, HasRoom}
-use Rattle.lock_table.proofs.Writes.{row_unwanted, row_added}
-use Rattle.lock_table.proofs.SameRows.{blocks_are}
+use Rattle.lock_table.proofs.BlockRows.{row_unwanted, row_added}
+use Rattle.lock_table.proofs.RowLemmas.{blocks_are}
 use Rattle.lock_table.proofs.lock_table.LockTable.add_row.Goals as goal
 
 pub insert_row-requires-clause-within : goal.insert_row-requires-clause-within

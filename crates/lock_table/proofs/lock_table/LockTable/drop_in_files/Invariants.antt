@@ -1,8 +1,7 @@
 use Rattle.std.proofs.Common.{◌≡◌, ℕ, ◌+◌, ◌/◌, ◌<◌}
 use Rattle.intervals.specs.rule.Bytes.{nothing}
-use Rattle.lock_table.specs.code.Rows.{HoldsLess}
+use Rattle.lock_table.specs.code.Rows.{HoldsLess, HasFlag}
 use Rattle.lock_table.specs.rule.Tables.{held}
-use Rattle.lock_table.specs.code.Pages.{HasFlag}
 use Rattle.lock_table.proofs.lock_table.LockTable.drop_in_files.Given as goal
 
 abbrev pub invariant-loop-word : goal.invariant-loop-word

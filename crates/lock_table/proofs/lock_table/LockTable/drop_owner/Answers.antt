@@ -1,13 +1,11 @@
 use Rattle.std.proofs.Common.{List}
 use Rattle.std.specs.List.{remove}
 use Rattle.lock_table.specs.declared.owner_locks.OwnerLocks.{OwnerLocks}
-use Rattle.lock_table.specs.code.Rows.{IsRowAt, IsGap}
+use Rattle.lock_table.specs.code.Rows.{IsRowAt, IsGap, rows_before, IsRowIn, IsGapIn}
 use Rattle.lock_table.specs.rule.Tables.{all_rows, rows_held}
-use Rattle.lock_table.specs.code.Blocks.{rows_before, IsRowIn, IsGapIn}
-use Rattle.lock_table.proofs.RowLemmas.{held-remove, held-same, rows-remove, place_below}
+use Rattle.lock_table.proofs.RowLemmas.{held-remove, held-same, rows-remove, place_below, blocks_are}
 use Rattle.lock_table.proofs.BlockRows.{row_whole}
 use Rattle.lock_table.proofs.PageLemmas.{covers-without}
-use Rattle.lock_table.proofs.SameRows.{blocks_are}
 use Rattle.lock_table.proofs.lock_table.LockTable.drop_owner.Goals as goal
 
 pub remove_row-requires-clause-within : goal.remove_row-requires-clause-within

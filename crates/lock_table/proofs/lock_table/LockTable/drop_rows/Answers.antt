@@ -2,9 +2,8 @@ use Rattle.std.proofs.Common.{List}
 use Rattle.std.specs.List.{filter}
 use Rattle.lock_table.specs.declared.owner_locks.OwnerLocks.{OwnerLocks}
 use Rattle.lock_table.specs.rule.Tables.{all_rows, rows_held}
-use Rattle.lock_table.proofs.RowLemmas.{is_of_other, held-filter, rows-filter}
+use Rattle.lock_table.proofs.RowLemmas.{is_of_other, held-filter, rows-filter, blocks_are}
 use Rattle.lock_table.proofs.PageLemmas.{covers-without_anywhere}
-use Rattle.lock_table.proofs.SameRows.{blocks_are}
 use Rattle.lock_table.proofs.lock_table.LockTable.drop_rows.Goals as goal
 
 pub invariant_of-self : goal.invariant_of-self

@@ -2,15 +2,13 @@ use Rattle.std.proofs.Common.{◌≡◌, [], get_or, length, take, List, refl, s
 use Rattle.std.proofs.lemmas.List.{get_or_default, take_all}
 use Rattle.model.specs.rule.Locks.{FileLocks, IsRegion, IsClear}
 use Rattle.lock_table.specs.declared.owner_locks.OwnerLocks.{OwnerLocks}
-use Rattle.lock_table.specs.rule.Tables.{all_rows, rows_held}
+use Rattle.lock_table.specs.rule.Tables.{all_rows, rows_held, HasInWay}
 use Rattle.intervals.specs.rule.Bytes.{IsLargest}
 use Rattle.lock_table.specs.code.Blockers.{AreNear}
-use Rattle.lock_table.specs.rule.Listing.{HasInWay}
-use Rattle.lock_table.proofs.BlockRows.{rows_of_block}
-use Rattle.lock_table.proofs.BlockJoins.{block_step, among_blocks}
+use Rattle.lock_table.proofs.BlockRows.{rows_of_block, block_step, among_blocks}
 use Rattle.lock_table.proofs.PageLemmas.{near_from}
-use Rattle.lock_table.proofs.WayLemmas.{around-start, around-join, clear_among}
-use Rattle.lock_table.proofs.SameRows.{blocks_are}
+use Rattle.lock_table.proofs.BlockerLemmas.{around-start, around-join, clear_among}
+use Rattle.lock_table.proofs.RowLemmas.{blocks_are}
 use Rattle.lock_table.proofs.lock_table.LockTable.free_around.Goals as goal
 
 pub loop-block-init : goal.loop-block-init

@@ -1,8 +1,7 @@
 use Rattle.std.proofs.Common.{take}
 use Rattle.intervals.specs.rule.Bytes.{IsLargest}
 use Rattle.model.specs.rule.Locks.{IsRegion}
-use Rattle.lock_table.specs.rule.Tables.{all_rows, rows_held}
-use Rattle.lock_table.specs.rule.Listing.{HasInWay}
+use Rattle.lock_table.specs.rule.Tables.{all_rows, rows_held, HasInWay}
 use Rattle.lock_table.proofs.lock_table.LockTable.free_around.Given as goal
 
 abbrev pub invariant-loop-block : goal.invariant-loop-block

@@ -4,10 +4,9 @@ use Rattle.std.proofs.lemmas.Bool.{false≢true}
 use Rattle.intervals.specs.rule.Bytes.{IsRun}
 use Rattle.model.specs.declared.mode.Mode.{Mode}
 use Rattle.lock_table.specs.rule.Tables.{all_rows}
-use Rattle.lock_table.specs.code.Blocks.{rows_before, IsRowIn, IsGapIn}
-use Rattle.lock_table.proofs.RowLemmas.{held-gap, held-at, place_below}
+use Rattle.lock_table.specs.code.Rows.{rows_before, IsRowIn, IsGapIn}
+use Rattle.lock_table.proofs.RowLemmas.{held-gap, held-at, place_below, blocks_are}
 use Rattle.lock_table.proofs.BlockRows.{row_whole, row_read}
-use Rattle.lock_table.proofs.SameRows.{blocks_are}
 use Rattle.lock_table.proofs.lock_table.LockTable.has_region.Goals as goal
 
 pub row_at-requires : goal.row_at-requires

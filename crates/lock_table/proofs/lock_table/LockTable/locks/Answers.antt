@@ -3,13 +3,11 @@ use Rattle.std.specs.Ordering.{is_lt}
 use Rattle.std.proofs.lemmas.List.{get_or_default, take_all}
 use Rattle.std.proofs.lemmas.Fn.{always_returns_same}
 use Rattle.model.specs.declared.lock_info.LockInfo.{LockInfo}
-use Rattle.lock_table.specs.rule.Tables.{rows_held}
-use Rattle.lock_table.specs.code.Listing.{lock_cmp}
-use Rattle.lock_table.specs.rule.Listing.{ListsRegions}
-use Rattle.lock_table.proofs.BlockRows.{rows_of_block}
-use Rattle.lock_table.proofs.BlockJoins.{block_step}
+use Rattle.lock_table.specs.rule.Tables.{rows_held, ListsRegions}
+use Rattle.lock_table.specs.code.Blockers.{lock_cmp}
+use Rattle.lock_table.proofs.BlockRows.{rows_of_block, block_step}
 use Rattle.lock_table.proofs.ListingLemmas.{lists_none, lists_join, listing_from, locks_weak}
-use Rattle.lock_table.proofs.SameRows.{blocks_are}
+use Rattle.lock_table.proofs.RowLemmas.{blocks_are}
 use Rattle.lock_table.proofs.lock_table.LockTable.locks.Goals as goal
 
 pub loop-block-init : goal.loop-block-init

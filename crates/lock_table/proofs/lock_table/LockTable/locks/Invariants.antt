@@ -1,6 +1,5 @@
 use Rattle.std.proofs.Common.{take}
-use Rattle.lock_table.specs.rule.Tables.{all_rows, rows_held}
-use Rattle.lock_table.specs.rule.Listing.{ListsRegions}
+use Rattle.lock_table.specs.rule.Tables.{all_rows, rows_held, ListsRegions}
 use Rattle.lock_table.proofs.lock_table.LockTable.locks.Given as goal
 
 abbrev pub invariant-loop-block : goal.invariant-loop-block

@@ -5,10 +5,9 @@ use Rattle.lock_table.specs.declared.owner_locks.OwnerLocks.{OwnerLocks}
 use Rattle.lock_table.specs.rule.Tables.{all_rows, rows_held}
 use Rattle.lock_table.specs.code.Blockers.{AreNear, IsLowestBut}
 use Rattle.lock_table.proofs.BlockerLemmas.{lowest_none, lowest_join}
-use Rattle.lock_table.proofs.BlockRows.{rows_of_block}
-use Rattle.lock_table.proofs.BlockJoins.{block_step, among_blocks}
+use Rattle.lock_table.proofs.BlockRows.{rows_of_block, block_step, among_blocks}
 use Rattle.lock_table.proofs.PageLemmas.{near_from}
-use Rattle.lock_table.proofs.SameRows.{blocks_are}
+use Rattle.lock_table.proofs.RowLemmas.{blocks_are}
 use Rattle.lock_table.proofs.lock_table.LockTable.lowest_but.Goals as goal
 
 pub loop-block-init : goal.loop-block-init

@@ -1,5 +1,5 @@
 use Rattle.lock_table.proofs.BlockRows.{placed_row}
-use Rattle.lock_table.proofs.SameRows.{blocks_are}
+use Rattle.lock_table.proofs.RowLemmas.{blocks_are}
 use Rattle.lock_table.proofs.lock_table.LockTable.plan.Goals as goal
 
 pub spans_at-own-requires : goal.spans_at-own-requires

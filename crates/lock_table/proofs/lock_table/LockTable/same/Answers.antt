@@ -3,7 +3,7 @@ use Rattle.std.proofs.lemmas.Bool.{eqb-true}
 use Rattle.model.specs.rule.Locks.{Locks}
 use Rattle.lock_table.specs.code.Rows.{AreRows}
 use Rattle.lock_table.specs.rule.Tables.{all_rows}
-use Rattle.lock_table.proofs.SameRows.{same_held, held_same, blocks_are, limit_is}
+use Rattle.lock_table.proofs.RowLemmas.{same_held, held_same, blocks_are, limit_is}
 use Rattle.lock_table.proofs.lock_table.LockTable.same.Goals as goal
 
 pub returns-then-self-other : goal.returns-then-self-other

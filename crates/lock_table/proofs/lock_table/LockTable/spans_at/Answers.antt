@@ -1,9 +1,8 @@
 use Rattle.std.proofs.Common.{◌≡◌, ◌<◌, [], get_or, length, sym}
 use Rattle.lock_table.specs.rule.Tables.{all_rows}
-use Rattle.lock_table.specs.code.Blocks.{rows_before, IsRowIn, IsGapIn}
-use Rattle.lock_table.proofs.RowLemmas.{held-at, held-gap, place_below}
+use Rattle.lock_table.specs.code.Rows.{rows_before, IsRowIn, IsGapIn}
+use Rattle.lock_table.proofs.RowLemmas.{held-at, held-gap, place_below, blocks_are}
 use Rattle.lock_table.proofs.BlockRows.{row_whole, row_read}
-use Rattle.lock_table.proofs.SameRows.{blocks_are}
 use Rattle.lock_table.proofs.lock_table.LockTable.spans_at.Goals as goal
 
 pub returns-in-Ok-clause-held : goal.returns-in-Ok-clause-held

@@ -1,9 +1,8 @@
 use Rattle.std.proofs.Common.{◌≡◌, [], get_or, length, List, ap, subst, arith}
 use Rattle.lock_table.specs.declared.owner_locks.OwnerLocks.{OwnerLocks}
-use Rattle.lock_table.specs.code.Blocks.{IsRowIn, RunsFit, IsRowWritten}
-use Rattle.lock_table.proofs.RowLemmas.{place_below}
-use Rattle.lock_table.proofs.BlockWrites.{own_block, written_some, written_within, written_kept, written_gone}
-use Rattle.lock_table.proofs.SameRows.{blocks_are}
+use Rattle.lock_table.specs.code.Rows.{IsRowIn, RunsFit, IsRowWritten}
+use Rattle.lock_table.proofs.RowLemmas.{place_below, blocks_are}
+use Rattle.lock_table.proofs.BlockRows.{own_block, written_some, written_within, written_kept, written_gone}
 use Rattle.lock_table.proofs.lock_table.LockTable.write_row.Goals as goal
 
 pub write-requires : goal.write-requires

@@ -4,14 +4,11 @@ use Rattle.std.proofs.lemmas.Bool.{both_ways}
 use Rattle.intervals.specs.rule.Bytes.{IsLargest}
 use Rattle.model.specs.rule.Locks.{FileLocks, IsRegion, IsClear}
 use Rattle.lock_table.specs.declared.owner_locks.OwnerLocks.{OwnerLocks}
-use Rattle.lock_table.specs.rule.Tables.{rows_held}
+use Rattle.lock_table.specs.rule.Tables.{rows_held, HasInWay}
 use Rattle.lock_table.specs.code.Blockers.{AreNear}
-use Rattle.lock_table.specs.rule.Listing.{HasInWay}
-use Rattle.lock_table.proofs.BlockerLemmas.{rows_step}
+use Rattle.lock_table.proofs.BlockerLemmas.{rows_step, around_to, around-start, around-more, around-skip, none_barred}
 use Rattle.lock_table.proofs.RowLemmas.{row_holds}
-use Rattle.lock_table.proofs.NearRows.{around_to}
 use Rattle.lock_table.proofs.PageLemmas.{none_near}
-use Rattle.lock_table.proofs.WayLemmas.{around-start, around-more, around-skip, none_barred}
 use Rattle.lock_table.proofs.lock_table.searches.free_in.Goals as goal
 use Rattle.lock_table.proofs.lock_table.searches.free_in.Goals.{then-has, else-has}
 

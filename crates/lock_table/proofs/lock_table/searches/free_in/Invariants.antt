@@ -1,8 +1,7 @@
 use Rattle.std.proofs.Common.{◌-◌, ◌≤◌, length, take}
 use Rattle.intervals.specs.rule.Bytes.{IsLargest}
 use Rattle.model.specs.rule.Locks.{IsRegion}
-use Rattle.lock_table.specs.rule.Tables.{rows_held}
-use Rattle.lock_table.specs.rule.Listing.{HasInWay}
+use Rattle.lock_table.specs.rule.Tables.{rows_held, HasInWay}
 use Rattle.lock_table.proofs.lock_table.searches.free_in.Given as goal
 
 abbrev pub invariant-loop-at : goal.invariant-loop-at

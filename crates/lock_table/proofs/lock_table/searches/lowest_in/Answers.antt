@@ -4,8 +4,7 @@ use Rattle.model.specs.rule.Locks.{FileLocks}
 use Rattle.lock_table.specs.declared.owner_locks.OwnerLocks.{OwnerLocks}
 use Rattle.lock_table.specs.rule.Tables.{rows_held}
 use Rattle.lock_table.specs.code.Blockers.{AreNear, IsLowestBut}
-use Rattle.lock_table.proofs.BlockerLemmas.{lowest_none, lowest_join, lowest_past, row_passed, rows_step}
-use Rattle.lock_table.proofs.NearRows.{lowest_to}
+use Rattle.lock_table.proofs.BlockerLemmas.{lowest_none, lowest_join, lowest_past, row_passed, rows_step, lowest_to}
 use Rattle.lock_table.proofs.PageLemmas.{none_near}
 use Rattle.lock_table.proofs.lock_table.searches.lowest_in.Goals as goal
 use Rattle.lock_table.proofs.lock_table.searches.lowest_in.Goals.{then-may_bar, else-may_bar}

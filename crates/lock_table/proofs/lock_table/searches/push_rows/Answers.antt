@@ -1,8 +1,7 @@
 use Rattle.std.proofs.Common.{◌≡◌, ◌++◌, [], List, sym, ap, ◌∙◌, append_assoc}
 use Rattle.std.proofs.lemmas.List.{take_all, append-nil}
 use Rattle.model.specs.declared.lock_info.LockInfo.{LockInfo}
-use Rattle.lock_table.specs.rule.Tables.{rows_held}
-use Rattle.lock_table.specs.rule.Listing.{ListsRegions}
+use Rattle.lock_table.specs.rule.Tables.{rows_held, ListsRegions}
 use Rattle.lock_table.proofs.BlockerLemmas.{rows_step}
 use Rattle.lock_table.proofs.RowLemmas.{row_holds}
 use Rattle.lock_table.proofs.ListingLemmas.{lists_none, lists_join}

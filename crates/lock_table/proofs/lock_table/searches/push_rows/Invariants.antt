@@ -1,7 +1,6 @@
 use Rattle.std.proofs.Common.{◌≡◌, ◌++◌, List, take}
 use Rattle.model.specs.declared.lock_info.LockInfo.{LockInfo}
-use Rattle.lock_table.specs.rule.Tables.{rows_held}
-use Rattle.lock_table.specs.rule.Listing.{ListsRegions}
+use Rattle.lock_table.specs.rule.Tables.{rows_held, ListsRegions}
 use Rattle.lock_table.proofs.lock_table.searches.push_rows.Given as goal
 
 abbrev pub invariant-loop-row : goal.invariant-loop-row

@@ -1,7 +1,7 @@
 use Rattle.std.proofs.Common.{rules, ◌+◌, ◌/◌, ◌≤◌, inl, inr, arith, subst, sym}
 use Rattle.intervals.specs.rule.Bytes.{Range}
-use Rattle.lock_table.specs.code.Pages.{IsKept}
-use Rattle.lock_table.proofs.PageSizes.{page_before, page_behind}
+use Rattle.lock_table.specs.code.Rows.{IsKept}
+use Rattle.lock_table.proofs.PageLemmas.{page_before, page_behind}
 use Rattle.lock_table.proofs.page_index.PageIndex.near.Goals as goal
 
 pub returns : goal.returns

@@ -1,6 +1,6 @@
 use Rattle.std.proofs.Common.{ℕ, ◌≤◌, ◌<◌}
 use Rattle.model.specs.declared.owner.Owner.{Owner}
-use Rattle.lock_table.specs.code.Pages.{Has, HasPage}
+use Rattle.lock_table.specs.code.Rows.{Has, HasPage}
 use Rattle.lock_table.proofs.page_index.PageIndex.near.Given as goal
 
 abbrev pub invariant-loop-page : goal.invariant-loop-page

@@ -2,9 +2,8 @@ use Rattle.std.proofs.Common.{◌≡◌, ℕ, ◌+◌, ◌/◌, inl, inr, arith,
 use Rattle.std.proofs.lemmas.Bool.{cases_lt}
 use Rattle.model.specs.declared.owner.Owner.{Owner}
 use Rattle.lock_table.specs.declared.page_index.PageIndex.{PageIndex}
-use Rattle.lock_table.specs.code.Pages.{MayHold}
-use Rattle.lock_table.proofs.PageLemmas.{may-long, may-counts}
-use Rattle.lock_table.proofs.PageSizes.{page_before, page_behind}
+use Rattle.lock_table.specs.code.Rows.{MayHold}
+use Rattle.lock_table.proofs.PageLemmas.{may-long, may-counts, page_before, page_behind}
 use Rattle.lock_table.proofs.page_index.PageIndex.note_bytes.Goals as goal
 
 counted : (x y : PageIndex) → y ≡ record x { runs = y.runs; digits = y.digits } → (f : ℕ) (o : Owner) (b : ℕ) → MayHold x f o b → MayHold y f o b

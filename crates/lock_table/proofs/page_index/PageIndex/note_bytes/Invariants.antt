@@ -1,6 +1,6 @@
 use Rattle.std.proofs.Common.{◌≡◌, ℕ, ◌+◌, ◌≤◌, ◌<◌, ◌⊎◌}
 use Rattle.model.specs.declared.owner.Owner.{Owner}
-use Rattle.lock_table.specs.code.Pages.{Has, HasFile, HasPage, IsKept, MayHold}
+use Rattle.lock_table.specs.code.Rows.{Has, HasFile, HasPage, IsKept, MayHold}
 use Rattle.lock_table.proofs.page_index.PageIndex.note_bytes.Given as goal
 
 abbrev pub invariant-loop-page : goal.invariant-loop-page

@@ -3,7 +3,7 @@ use Rattle.intervals.specs.rule.Bytes.{greatest}
 use Rattle.intervals.specs.rule.Runs.{value_at}
 use Rattle.model.specs.declared.mode.Mode.{Mode}
 use Rattle.model.specs.declared.owner.Owner.{Owner}
-use Rattle.lock_table.specs.code.Pages.{IsKept, MayHold}
+use Rattle.lock_table.specs.code.Rows.{IsKept, MayHold}
 use Rattle.lock_table.proofs.page_index.PageIndex.note_row.Given as goal
 
 -- the bytes that the row holds below `from` are noted

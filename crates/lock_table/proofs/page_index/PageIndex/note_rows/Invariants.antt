@@ -2,7 +2,7 @@ use Rattle.std.proofs.Common.{◌≡◌, ℕ, ◌⊎◌, drop, Some}
 use Rattle.model.specs.declared.mode.Mode.{Mode}
 use Rattle.model.specs.declared.owner.Owner.{Owner}
 use Rattle.lock_table.specs.rule.Tables.{rows_held}
-use Rattle.lock_table.specs.code.Pages.{IsKept, MayHold}
+use Rattle.lock_table.specs.code.Rows.{IsKept, MayHold}
 use Rattle.lock_table.proofs.page_index.PageIndex.note_rows.Given as goal
 
 abbrev pub invariant-loop-row : goal.invariant-loop-row

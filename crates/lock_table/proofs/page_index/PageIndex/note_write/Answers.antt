@@ -2,7 +2,7 @@ use Rattle.std.proofs.Common.{ℕ, ◌≤◌, ap, subst}
 use Rattle.intervals.specs.rule.Bytes.{Range}
 use Rattle.intervals.specs.declared.span_edit.SpanEdit.{SpanEdit}
 use Rattle.model.specs.declared.mode.Mode.{Mode}
-use Rattle.lock_table.specs.code.Pages.{MayHold}
+use Rattle.lock_table.specs.code.Rows.{MayHold}
 use Rattle.lock_table.proofs.PageLemmas.{may-counts, put-noted}
 use Rattle.lock_table.proofs.page_index.PageIndex.note_write.Goals as goal
 

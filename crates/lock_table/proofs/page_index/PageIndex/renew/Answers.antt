@@ -2,8 +2,7 @@ use Rattle.std.proofs.Common.{◌≡◌, None, Some, rules, [], ◌++◌, get_or
 use Rattle.lock_table.specs.declared.owner_locks.OwnerLocks.{OwnerLocks}
 use Rattle.std.proofs.lemmas.List.{get_or_default, take_all, take_more}
 use Rattle.lock_table.specs.rule.Tables.{all_rows, rows_held}
-use Rattle.lock_table.proofs.BlockRows.{all_push}
-use Rattle.lock_table.proofs.BlockJoins.{append-held}
+use Rattle.lock_table.proofs.BlockRows.{all_push, append-held}
 use Rattle.lock_table.proofs.page_index.PageIndex.renew.Goals as goal
 
 pub loop-block-init : goal.loop-block-init

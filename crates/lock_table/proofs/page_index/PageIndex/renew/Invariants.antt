@@ -1,6 +1,6 @@
 use Rattle.std.proofs.Common.{take}
 use Rattle.lock_table.specs.rule.Tables.{all_rows, rows_held}
-use Rattle.lock_table.specs.code.Pages.{IsKept, Covers}
+use Rattle.lock_table.specs.code.Rows.{IsKept, Covers}
 use Rattle.lock_table.proofs.page_index.PageIndex.renew.Given as goal
 
 abbrev pub invariant-loop-block : goal.invariant-loop-block

@@ -1,4 +1,4 @@
-use Rattle.merges.specs.code.Mergers.{Covers}
+use Rattle.merges.specs.code.Merging.{Covers}
 use Rattle.merges.proofs.ends.Ends.least.Given as goal
 
 abbrev pub invariant-loop : goal.invariant-loop

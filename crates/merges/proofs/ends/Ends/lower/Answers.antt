@@ -2,7 +2,7 @@ use Rattle.std.proofs.Common.{ℕ, ◌≤◌, subst, sym, List, length, All}
 use Rattle.std.proofs.lemmas.List.Sorted.{first_le_from_greatest}
 use Rattle.std.specs.BinaryHeap.{heap_items}
 use Rattle.std.specs.Ordering.{nat_cmp}
-use Rattle.merges.specs.code.Mergers.{EndsFrom}
+use Rattle.merges.specs.code.Merging.{EndsFrom}
 use Rattle.merges.proofs.Covering.{lowest}
 use Rattle.merges.proofs.ends.Ends.lower.Goals as goal
 

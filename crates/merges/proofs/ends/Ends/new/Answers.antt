@@ -3,7 +3,7 @@ use Rattle.std.proofs.lemmas.Bool.{cases_lt}
 use Rattle.std.proofs.lemmas.List.Sorted.{Contains-permutation}
 use Rattle.std.specs.List.{Contains}
 use Rattle.std.specs.BinaryHeap.{heap_items}
-use Rattle.merges.specs.code.Mergers.{last_moment}
+use Rattle.merges.specs.code.Merging.{last_moment}
 use Rattle.merges.proofs.Covering.{contains_behind, contains_first}
 use Rattle.merges.proofs.ends.Ends.new.Goals as goal
 

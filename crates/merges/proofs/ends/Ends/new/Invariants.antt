@@ -2,7 +2,7 @@ use Rattle.std.specs.Prelude.{ℕ, ◌<◌}
 use Rattle.std.specs.List.{Contains}
 use Rattle.std.specs.BinaryHeap.{heap_items, IsHeap}
 use Rattle.std.specs.Ordering.{nat_cmp, ordering_then}
-use Rattle.merges.specs.code.Mergers.{last_moment}
+use Rattle.merges.specs.code.Merging.{last_moment}
 use Rattle.merges.proofs.ends.Ends.new.Given as goal
 
 abbrev pub invariant-loop-index : goal.invariant-loop-index

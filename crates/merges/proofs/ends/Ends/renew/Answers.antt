@@ -1,6 +1,6 @@
 use Rattle.std.proofs.Common.{ℕ, subst, sym, arith, List}
 use Rattle.std.specs.BinaryHeap.{heap_items}
-use Rattle.merges.specs.code.Mergers.{Covers}
+use Rattle.merges.specs.code.Merging.{Covers}
 use Rattle.merges.proofs.Covering.{of_log, renewed}
 use Rattle.merges.proofs.ends.Ends.renew.Goals.{in-Some-get, in-None}
 use Rattle.merges.proofs.ends.Ends.renew.Goals as goal

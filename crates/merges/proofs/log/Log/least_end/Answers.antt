@@ -1,6 +1,6 @@
 use Rattle.std.proofs.Common.{◌≡◌, ◌∷◌, List, length, subst}
 use Rattle.merges.specs.declared.logged.LoggedEntry.{LoggedEntry}
-use Rattle.merges.specs.rule.Logs.{LogFields}
+use Rattle.merges.specs.rule.Merges.{LogFields}
 use Rattle.merges.proofs.Orders.{RisesTo, first_least}
 use Rattle.merges.proofs.log.Log.least_end.Goals as goal
 

@@ -1,5 +1,5 @@
 use Rattle.std.proofs.Common.{◌≡◌, ◌+◌, arith, ap, ◌∙◌, drop}
-use Rattle.merges.specs.rule.Logs.{LogFields}
+use Rattle.merges.specs.rule.Merges.{LogFields}
 use Rattle.merges.specs.declared.logged.LoggedEntry.{LoggedEntry}
 use Rattle.merges.proofs.Orders.{rises_behind, rest_behind}
 use Rattle.merges.proofs.log.Log.pass.Goals as goal

@@ -1,6 +1,6 @@
 use Rattle.std.proofs.Common.{◌<◌, ◌-◌, arith}
 use Rattle.std.proofs.lemmas.Bool.Decides.{nat_tests}
-use Rattle.merges.specs.code.Mergers.{fields_of}
+use Rattle.merges.specs.code.Merging.{fields_of}
 use Rattle.merges.proofs.Floors.{allows_no}
 use Rattle.merges.proofs.merger.Merger.allows.Goals as goal
 

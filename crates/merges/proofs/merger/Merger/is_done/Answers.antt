@@ -2,8 +2,8 @@ use Rattle.std.proofs.Common.{◌≡◌, ◌<◌, ◌∷◌, [], not, sym, ap, �
 use Rattle.std.proofs.lemmas.Bool.{not-false}
 use Rattle.merges.specs.declared.logged.LoggedEntry.{LoggedEntry}
 use Rattle.merges.specs.declared.logged.LoggedChange.{LoggedChange}
-use Rattle.merges.specs.rule.Logs.{LogFields}
-use Rattle.merges.specs.code.Mergers.{fields_of}
+use Rattle.merges.specs.rule.Merges.{LogFields}
+use Rattle.merges.specs.code.Merging.{fields_of}
 use Rattle.merges.proofs.Readings.{found, not_found, none_there}
 use Rattle.merges.proofs.Floors.{all_done, log_done}
 use Rattle.merges.proofs.merger.Merger.is_done.Goals as goal

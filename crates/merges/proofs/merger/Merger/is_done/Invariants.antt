@@ -1,5 +1,5 @@
 use Rattle.std.specs.Prelude.{◌≡◌, ℕ, ◌<◌, [], slice_index_or}
-use Rattle.merges.specs.rule.Logs.{LogFields}
+use Rattle.merges.specs.rule.Merges.{LogFields}
 use Rattle.merges.proofs.merger.Merger.is_done.Given as goal
 
 abbrev pub invariant-loop-index : goal.invariant-loop-index

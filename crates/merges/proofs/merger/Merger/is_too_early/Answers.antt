@@ -3,8 +3,7 @@ use Rattle.std.proofs.lemmas.Option.{slice_get_within, get_or_from_slice_get}
 use Rattle.messages.specs.declared.event.Event.TheVariants.{Member}
 use Rattle.cluster_core.specs.rule.World.{WorldState}
 use Rattle.cluster_core.specs.rule.Parts.{world_state}
-use Rattle.merges.specs.rule.Logs.{LogFields}
-use Rattle.merges.specs.rule.Merges.{ends}
+use Rattle.merges.specs.rule.Merges.{LogFields, ends}
 use Rattle.merges.specs.code.Merging.{current, is_there}
 use Rattle.merges.proofs.Readings.{read}
 use Rattle.merges.proofs.NextChanges.{used_by_all, not_used}

@@ -1,8 +1,7 @@
 use Rattle.std.specs.Prelude.{◌≡◌, ℕ, ◌<◌, true, [], slice_index_or}
 use Rattle.messages.specs.declared.event.Event.TheVariants.{Member}
 use Rattle.cluster_core.specs.rule.Parts.{world_state}
-use Rattle.merges.specs.rule.Logs.{LogFields}
-use Rattle.merges.specs.rule.Merges.{ends}
+use Rattle.merges.specs.rule.Merges.{LogFields, ends}
 use Rattle.merges.specs.code.Merging.{current, is_there}
 use Rattle.merges.proofs.merger.Merger.is_too_early.Given as goal
 

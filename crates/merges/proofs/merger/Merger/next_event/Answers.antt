@@ -1,9 +1,8 @@
 use Rattle.std.proofs.Common.{◌≡◌, ◌∷◌, [], List, true, false, refl, sym, ap, ◌∙◌}
 use Rattle.cluster_core.specs.rule.Parts.{world_state}
 use Rattle.merges.specs.declared.logged.LoggedEntry.{LoggedEntry}
-use Rattle.merges.specs.rule.Logs.{LogFields}
-use Rattle.merges.specs.rule.Merges.{takes}
-use Rattle.merges.specs.code.Mergers.{fields_of}
+use Rattle.merges.specs.rule.Merges.{LogFields, takes}
+use Rattle.merges.specs.code.Merging.{fields_of}
 use Rattle.merges.proofs.Readings.{got, current_there, not_current_there}
 use Rattle.merges.proofs.NextEntries.{no_entry, not_own, not_allowed, not_current}
 use Rattle.merges.proofs.merger.Merger.next_event.Goals as goal

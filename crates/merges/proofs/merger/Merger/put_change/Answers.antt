@@ -1,6 +1,6 @@
 use Rattle.std.proofs.Common.{◌≡◌, ◌∷◌, refl, ap, List}
 use Rattle.merges.specs.declared.logged.LoggedChange.{LoggedChange}
-use Rattle.merges.specs.code.Mergers.{MergerFields, fields_of}
+use Rattle.merges.specs.code.Merging.{MergerFields, fields_of}
 use Rattle.merges.proofs.NextChanges.{change_done}
 use Rattle.merges.proofs.merger.Merger.put_change.Goals as goal
 

@@ -3,7 +3,7 @@ use Rattle.std.specs.Prelude.{IfSome}
 use Rattle.std.proofs.lemmas.Option.{slice_get_within}
 use Rattle.messages.specs.declared.event.Event.{Event}
 use Rattle.cluster_core.specs.rule.World.{journal_limit}
-use Rattle.merges.specs.code.Mergers.{MergerFields, MayBeTried, fields_of}
+use Rattle.merges.specs.code.Merging.{MergerFields, MayBeTried, fields_of}
 use Rattle.merges.proofs.Mergers.{entry_full, entry_other, entry_done, to_compare, longer_by_one}
 use Rattle.merges.proofs.NextEntries.{not_taken}
 use Rattle.merges.proofs.merger.Merger.put_entry.Goals as goal

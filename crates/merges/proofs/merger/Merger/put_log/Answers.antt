@@ -1,7 +1,7 @@
 use Rattle.std.proofs.Common.{subst}
 use Rattle.std.proofs.lemmas.Result.{err_from_is_err_and}
 use Rattle.merges.specs.declared.merger.Merger.{Merger}
-use Rattle.merges.specs.code.Mergers.{CannotCome, fields_of}
+use Rattle.merges.specs.code.Merging.{CannotCome, fields_of}
 use Rattle.merges.proofs.Mergers.{puts_both, then_longer, fails_before}
 use Rattle.merges.proofs.merger.Merger.put_log.Goals as goal
 

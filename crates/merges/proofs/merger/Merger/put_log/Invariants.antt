@@ -1,6 +1,6 @@
 use Rattle.std.specs.Prelude.{◌≡◌, ◌-◌, false, true, length}
 use Rattle.cluster_core.specs.rule.World.{journal_limit}
-use Rattle.merges.specs.code.Mergers.{Longer, PutsOn, fields_of}
+use Rattle.merges.specs.code.Merging.{Longer, PutsOn, fields_of}
 use Rattle.merges.proofs.merger.Merger.put_log.Given as goal
 
 abbrev pub invariant-loop-put : goal.invariant-loop-put

@@ -1,6 +1,6 @@
 use Rattle.std.specs.Prelude.{◌-◌, length}
 use Rattle.cluster_core.specs.rule.World.{journal_limit}
-use Rattle.merges.specs.code.Mergers.{Covers, PutsOn, fields_of}
+use Rattle.merges.specs.code.Merging.{Covers, PutsOn, fields_of}
 use Rattle.merges.proofs.merger.Merger.put_most.Given as goal
 
 abbrev pub invariant-loop-queue : goal.invariant-loop-queue

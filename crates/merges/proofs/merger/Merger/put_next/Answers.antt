@@ -1,7 +1,7 @@
 use Rattle.std.proofs.Common.{ap, ◌∙◌, sym, length, subst, List}
 use Rattle.std.proofs.lemmas.Result.{err_from_is_err_and}
-use Rattle.merges.specs.rule.Logs.{LogFields}
-use Rattle.merges.specs.code.Mergers.{MergerFields, fields_of, Covers, EndsFrom}
+use Rattle.merges.specs.rule.Merges.{LogFields}
+use Rattle.merges.specs.code.Merging.{MergerFields, fields_of, Covers, EndsFrom}
 use Rattle.merges.proofs.Mergers.{puts_raised, fails_before}
 use Rattle.merges.proofs.Covering.{covers_later}
 use Rattle.merges.proofs.merger.Merger.put_next.Goals as goal

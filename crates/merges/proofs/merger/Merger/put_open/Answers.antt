@@ -1,6 +1,6 @@
 use Rattle.std.proofs.Common.{sym, ◌∙◌}
 use Rattle.std.proofs.lemmas.Result.{err_from_is_err_and}
-use Rattle.merges.specs.code.Mergers.{fields_of}
+use Rattle.merges.specs.code.Merging.{fields_of}
 use Rattle.merges.proofs.Mergers.{puts_both, then_longer, longer_then, fails_before}
 use Rattle.merges.proofs.merger.Merger.put_open.Goals.{then-branch, else-branch}
 use Rattle.merges.proofs.merger.Merger.put_open.Goals as goal

@@ -1,5 +1,5 @@
 use Rattle.std.specs.Prelude.{◌≡◌, true}
-use Rattle.merges.specs.code.Mergers.{Longer, PutsOn, fields_of}
+use Rattle.merges.specs.code.Merging.{Longer, PutsOn, fields_of}
 use Rattle.merges.proofs.merger.Merger.put_open.Given as goal
 
 abbrev pub invariant-loop-index : goal.invariant-loop-index

@@ -2,7 +2,7 @@ use Rattle.std.proofs.Common.{◌≡◌, ℕ, ◌≤◌, true, false, inl, inr, 
 use Rattle.std.proofs.lemmas.Bool.{cases_lt}
 use Rattle.std.proofs.lemmas.Result.{err_from_is_err_and}
 use Rattle.merges.specs.declared.merger.Merger.{Merger}
-use Rattle.merges.specs.code.Mergers.{MergerFields, CannotCome, IsExact, IsStuck, fields_of}
+use Rattle.merges.specs.code.Merging.{MergerFields, CannotCome, IsExact, IsStuck, fields_of}
 use Rattle.merges.proofs.Mergers.{puts_raised, puts_both, then_longer, longer_then, fails_before, all_stuck}
 use Rattle.merges.proofs.merger.Merger.put_round.Goals.{then-branch, else-branch}
 use Rattle.merges.proofs.merger.Merger.put_round.Goals as goal

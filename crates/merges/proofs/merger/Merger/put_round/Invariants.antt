@@ -1,5 +1,5 @@
 use Rattle.std.specs.Prelude.{◌≡◌, ℕ, ◌<◌, false, true}
-use Rattle.merges.specs.code.Mergers.{CannotCome, IsExact, Longer, PutsOn, fields_of}
+use Rattle.merges.specs.code.Merging.{CannotCome, IsExact, Longer, PutsOn, fields_of}
 use Rattle.merges.proofs.merger.Merger.put_round.Given as goal
 
 abbrev pub invariant-loop-index : goal.invariant-loop-index

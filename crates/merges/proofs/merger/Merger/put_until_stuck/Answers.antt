@@ -1,5 +1,5 @@
 use Rattle.std.proofs.lemmas.Result.{err_from_is_err_and}
-use Rattle.merges.specs.code.Mergers.{fields_of}
+use Rattle.merges.specs.code.Merging.{fields_of}
 use Rattle.merges.proofs.Mergers.{puts_both, fails_before}
 use Rattle.merges.proofs.merger.Merger.put_until_stuck.Goals as goal
 

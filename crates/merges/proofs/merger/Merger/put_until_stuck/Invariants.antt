@@ -1,6 +1,6 @@
 use Rattle.std.specs.Prelude.{◌-◌, length}
 use Rattle.cluster_core.specs.rule.World.{journal_limit}
-use Rattle.merges.specs.code.Mergers.{PutsOn, fields_of}
+use Rattle.merges.specs.code.Merging.{PutsOn, fields_of}
 use Rattle.merges.proofs.merger.Merger.put_until_stuck.Given as goal
 
 abbrev pub invariant-loop : goal.invariant-loop

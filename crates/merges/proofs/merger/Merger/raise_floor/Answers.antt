@@ -2,8 +2,8 @@ use Rattle.std.proofs.Common.{◌+◌, ◌<◌, ◌≤◌, sym, subst, arith, le
 use Rattle.std.proofs.lemmas.List.Elements.{All-weaker}
 use Rattle.merges.specs.declared.logged.LoggedEntry.{LoggedEntry}
 use Rattle.merges.specs.declared.logged.LoggedChange.{LoggedChange}
-use Rattle.merges.specs.rule.Logs.{LogFields}
-use Rattle.merges.specs.code.Mergers.{fields_of}
+use Rattle.merges.specs.rule.Merges.{LogFields}
+use Rattle.merges.specs.code.Merging.{fields_of}
 use Rattle.merges.proofs.Floors.{ends_more, raised_good, raised_exact}
 use Rattle.merges.proofs.merger.Merger.raise_floor.Goals as goal
 

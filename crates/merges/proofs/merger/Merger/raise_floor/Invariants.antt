@@ -1,6 +1,6 @@
 use Rattle.std.specs.Prelude.{ℕ, ◌+◌, ◌≤◌, All}
 use Rattle.merges.specs.declared.logged.LoggedChange.{LoggedChange}
-use Rattle.merges.specs.code.Mergers.{EndsFrom, last_moment}
+use Rattle.merges.specs.code.Merging.{EndsFrom, last_moment}
 use Rattle.merges.proofs.Floors.{EndsAbout}
 use Rattle.merges.proofs.merger.Merger.raise_floor.Given as goal
 

@@ -3,7 +3,7 @@ use Rattle.std.proofs.lemmas.List.Elements.{All-weaker}
 use Rattle.std.specs.Prelude.{slice_index_or}
 use Rattle.merges.specs.declared.logged.LoggedEntry.{LoggedEntry}
 use Rattle.merges.specs.declared.logged.LoggedChange.{LoggedChange}
-use Rattle.merges.specs.code.Mergers.{fields_of}
+use Rattle.merges.specs.code.Merging.{fields_of}
 use Rattle.merges.proofs.Floors.{raised_good}
 use Rattle.merges.proofs.merger.Merger.set_floor.Goals as goal
 

@@ -1,8 +1,8 @@
 use Rattle.std.proofs.Common.{ℕ, ap, arith}
 use Rattle.model.specs.declared.mode.Mode.{Mode}
 use Rattle.model.specs.declared.owner.Owner.{Owner}
-use Rattle.message_text.proofs.Views.{view-none, view-unfit}
-use Rattle.message_text.proofs.SpanParts.{lock_parts, locks}
+use Rattle.message_text.proofs.NameTexts.{view-none, view-unfit}
+use Rattle.message_text.proofs.MessageKinds.{lock_parts, locks}
 use Rattle.message_text.proofs.fields.LockTextText.read.Goals as goal
 
 pub returns-in_err-mode : goal.returns-in_err-mode

@@ -1,8 +1,7 @@
 use Rattle.std.proofs.Common.{sym, subst, ◌∙◌}
 use Rattle.messages.specs.declared.version.Version.{Version}
 use Rattle.texts.specs.rule.Reads.{Both, Reads}
-use Rattle.message_text.specs.rule.Served.{IsCommandNumber}
-use Rattle.message_text.specs.rule.Texts.{command_text}
+use Rattle.message_text.specs.rule.Texts.{IsCommandNumber, command_text}
 use Rattle.message_text.proofs.fields.NumberedText.read.Goals as goal
 
 pub returns-in-Second : goal.returns-in-Second

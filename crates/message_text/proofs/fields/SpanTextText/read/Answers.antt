@@ -1,6 +1,6 @@
 use Rattle.std.proofs.Common.{ℕ, ap, arith}
-use Rattle.message_text.proofs.Views.{view-none, view-unfit}
-use Rattle.message_text.proofs.SpanParts.{offsets, spans}
+use Rattle.message_text.proofs.NameTexts.{view-none, view-unfit}
+use Rattle.message_text.proofs.MessageKinds.{offsets, spans}
 use Rattle.message_text.proofs.fields.SpanTextText.read.Goals as goal
 
 pub returns-in_err-lo : goal.returns-in_err-lo

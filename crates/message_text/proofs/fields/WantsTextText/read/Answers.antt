@@ -1,7 +1,7 @@
 use Rattle.std.proofs.Common.{ℕ, ap, arith}
 use Rattle.intervals.specs.rule.Bytes.{Range}
-use Rattle.message_text.proofs.Views.{view-none, view-unfit}
-use Rattle.message_text.proofs.SpanParts.{offsets_and_span, ranges}
+use Rattle.message_text.proofs.NameTexts.{view-none, view-unfit}
+use Rattle.message_text.proofs.MessageKinds.{offsets_and_span, ranges}
 use Rattle.message_text.proofs.fields.WantsTextText.read.Goals as goal
 
 pub returns-in_err-lo : goal.returns-in_err-lo

@@ -1,5 +1,4 @@
-use Rattle.message_text.proofs.Views.{view-none}
-use Rattle.message_text.proofs.NameTexts.{hosts}
+use Rattle.message_text.proofs.NameTexts.{view-none, hosts}
 use Rattle.message_text.proofs.names.HostNameText.read.Goals as goal
 
 pub returns-in_err-node : goal.returns-in_err-node

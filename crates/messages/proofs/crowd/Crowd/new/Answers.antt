@@ -1,7 +1,6 @@
 use Rattle.std.proofs.Common.{arith, true, refl}
-use Rattle.messages.specs.rule.Parts.{incarnation_of}
-use Rattle.messages.proofs.Numbered.{begun_empty, begun_more}
-use Rattle.messages.proofs.Rules.{first_is_first}
+use Rattle.messages.specs.rule.Members.{incarnation_of}
+use Rattle.messages.proofs.Rules.{begun_empty, begun_more, first_is_first}
 use Rattle.messages.proofs.crowd.Crowd.new.Goals as goal
 
 pub loop-index-init : goal.loop-index-init

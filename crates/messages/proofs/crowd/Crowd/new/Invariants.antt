@@ -1,6 +1,6 @@
 use Rattle.std.proofs.Common.{true}
-use Rattle.messages.specs.rule.Parts.{incarnation_of}
-use Rattle.messages.proofs.Numbered.{Begun}
+use Rattle.messages.specs.rule.Members.{incarnation_of}
+use Rattle.messages.proofs.Rules.{Begun}
 use Rattle.messages.proofs.crowd.Crowd.new.Given as goal
 
 abbrev pub invariant-loop-index : goal.invariant-loop-index

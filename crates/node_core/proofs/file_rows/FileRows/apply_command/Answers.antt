@@ -3,7 +3,7 @@ use Rattle.std.specs.List.{slice_get}
 use Rattle.std.proofs.Common.{arith, ap, sym, subst, ◌∙◌}
 use Rattle.node_core.specs.rule.Files.{file_state}
 use Rattle.node_core.specs.code.Plans.{edit_in, files_after, row_after, CommandFits}
-use Rattle.node_core.proofs.MadeRows.{rows-count, known-count, own-row, row-written}
+use Rattle.node_core.proofs.FileLaws.{rows-count, known-count, own-row, row-written}
 use Rattle.node_core.proofs.file_rows.FileRows.apply_command.Goals as goal
 
 pub make_rows-requires : goal.make_rows-requires

@@ -2,8 +2,8 @@ use Rattle.std.specs.Prelude.{◌-◌, ◌<◌, false, length}
 use Rattle.std.proofs.Common.{arith, ap, sym, refl, ◌∙◌}
 use Rattle.node_core.specs.rule.State.{FileState}
 use Rattle.node_core.specs.rule.Files.{file_state}
-use Rattle.node_core.specs.code.FileRows.{first_row}
-use Rattle.node_core.proofs.MadeRows.{rows-count, known-count, own-row, shared-row, row-says, row-written, told-nothing}
+use Rattle.node_core.specs.code.Plans.{first_row}
+use Rattle.node_core.proofs.FileLaws.{rows-count, known-count, own-row, shared-row, row-says, row-written, told-nothing}
 use Rattle.node_core.proofs.file_rows.FileRows.clear_one.Goals as goal
 
 pub returns-then-file-len-clause-state : goal.returns-then-file-len-clause-state

@@ -1,5 +1,5 @@
 use Rattle.std.proofs.Common.{arith}
-use Rattle.node_core.proofs.MadeRows.{own-row, shared-row, row-says}
+use Rattle.node_core.proofs.FileLaws.{own-row, shared-row, row-says}
 use Rattle.node_core.proofs.file_rows.FileRows.get.Goals as goal
 
 pub returns-then-place-len-clause-row : goal.returns-then-place-len-clause-row

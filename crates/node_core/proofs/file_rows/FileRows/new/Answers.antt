@@ -1,7 +1,7 @@
 use Rattle.std.proofs.Common.{ap, ◌∙◌}
 use Rattle.node_core.specs.rule.Files.{file_state}
-use Rattle.node_core.specs.code.FileRows.{rows_of}
-use Rattle.node_core.proofs.MadeRows.{rows-count, nothing-made}
+use Rattle.node_core.specs.code.Plans.{rows_of}
+use Rattle.node_core.proofs.FileLaws.{rows-count, nothing-made}
 use Rattle.node_core.proofs.file_rows.FileRows.new.Goals as goal
 
 pub returns-clause-state : goal.returns-clause-state

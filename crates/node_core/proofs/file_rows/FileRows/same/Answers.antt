@@ -1,6 +1,5 @@
 use Rattle.std.proofs.Common.{arith, refl}
-use Rattle.node_core.proofs.FileLaws.{file_state-same}
-use Rattle.node_core.proofs.MadeRows.{known-count}
+use Rattle.node_core.proofs.FileLaws.{file_state-same, known-count}
 use Rattle.node_core.proofs.file_rows.FileRows.same.Goals as goal
 
 pub get-requires : goal.get-requires

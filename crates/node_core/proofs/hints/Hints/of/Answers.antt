@@ -1,7 +1,7 @@
 use Rattle.std.proofs.Common.{sym}
 use Rattle.std.proofs.lemmas.List.{take_all}
 use Rattle.std.proofs.lemmas.List.Elements.{All-more, All-weaker, All-same}
-use Rattle.node_core.specs.code.Hints.{IsHinted}
+use Rattle.node_core.specs.code.Plans.{IsHinted}
 use Rattle.node_core.proofs.hints.Hints.of.Goals as goal
 
 pub loop-call-preserved : goal.loop-call-preserved

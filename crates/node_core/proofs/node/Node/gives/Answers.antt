@@ -1,8 +1,8 @@
 use Rattle.std.proofs.Common.{◌≡◌, ℕ, subst}
 use Rattle.model.specs.rule.Locks.{IsRegion}
 use Rattle.lock_table.specs.rule.Tables.{held}
-use Rattle.token_set.specs.rule.Releases.{IsRevocable, IsGivenUp}
-use Rattle.messages.specs.rule.Wants.{Wants}
+use Rattle.token_set.specs.rule.Tokens.{IsRevocable, IsGivenUp}
+use Rattle.messages.specs.rule.TokenRuns.{Wants}
 use Rattle.node_core.proofs.NodeLaws.{node-gives}
 use Rattle.node_core.proofs.node.Node.gives.Goals as goal
 

@@ -7,7 +7,7 @@ use Rattle.node_core.specs.rule.Try.{tried_if}
 use Rattle.node_core.specs.rule.Commands.{in_epoch, before, granted}
 use Rattle.node_core.specs.rule.Parts.{node_state, after_grant}
 use Rattle.node_core.specs.code.Plans.{effect_of}
-use Rattle.node_core.proofs.EpochLaws.{in_order-next, granted-in, effect-before}
+use Rattle.node_core.proofs.PlanLaws.{in_order-next, granted-in, effect-before}
 use Rattle.node_core.proofs.node.Node.grant.Goals as goal
 
 pub returns-clause-value : goal.returns-clause-value

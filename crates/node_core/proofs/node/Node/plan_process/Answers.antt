@@ -2,7 +2,7 @@ use Rattle.std.proofs.Common.{◌≡◌, Result, subst, sym, true}
 use Rattle.model.specs.declared.op.Op.TheVariants as op
 use Rattle.model.specs.declared.reply.Reply.{Reply}
 use Rattle.model.specs.rule.Descriptors.{Processes, after}
-use Rattle.descriptors.proofs.Beginnings.{can_begin}
+use Rattle.descriptors.proofs.RowLaws.{can_begin}
 use Rattle.node_core.specs.rule.Calls.{is_in_shape}
 use Rattle.node_core.specs.rule.Parts.{node_state}
 use Rattle.node_core.proofs.NodeLaws.{beside-ok, beside-err, call-within, possible_call}

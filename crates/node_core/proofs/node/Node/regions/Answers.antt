@@ -1,5 +1,5 @@
 use Rattle.node_core.specs.rule.Parts.{node_state}
-use Rattle.node_core.proofs.ReaderLaws.{node-owners, node-anchored}
+use Rattle.node_core.proofs.NodeLaws.{node-owners, node-anchored}
 use Rattle.node_core.proofs.node.Node.regions.Goals as goal
 
 pub returns-clause-listing : goal.returns-clause-listing

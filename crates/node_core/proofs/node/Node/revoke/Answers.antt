@@ -1,7 +1,7 @@
 use Rattle.std.proofs.Common.{rules, sym, ◌∙◌}
 use Rattle.node_core.specs.rule.Commands.{in_epoch, revoked}
 use Rattle.node_core.specs.rule.Parts.{node_state}
-use Rattle.node_core.proofs.EpochLaws.{in_order-next, revoked-in}
+use Rattle.node_core.proofs.PlanLaws.{in_order-next, revoked-in}
 use Rattle.node_core.proofs.node.Node.revoke.Goals as goal
 
 pub returns-clause-value : goal.returns-clause-value

@@ -8,7 +8,7 @@ use Rattle.descriptors.specs.code.Rows.{resolved}
 use Rattle.descriptors.specs.rule.Rows.{processes}
 use Rattle.node_core.specs.rule.Parts.{NodeParts}
 use Rattle.node_core.proofs.NodeLaws.{target-refused, target-found, target-file}
-use Rattle.fcntl_table.proofs.TargetLaws.{segment-is}
+use Rattle.fcntl_table.proofs.TableLaws.{segment-is}
 use Rattle.node_core.proofs.node.Node.target.Goals as goal
 
 pub returns-in-Err-clause-value : goal.returns-in-Err-clause-value

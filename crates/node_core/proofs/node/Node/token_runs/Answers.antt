@@ -1,6 +1,6 @@
 use Rattle.std.proofs.Common.{◌∙◌, ap, sym, ℕ}
 use Rattle.messages.specs.rule.Messages.{is_within}
-use Rattle.node_core.proofs.ReaderLaws.{past_runs, file_in_shape}
+use Rattle.node_core.proofs.NodeLaws.{past_runs, file_in_shape}
 use Rattle.node_core.proofs.node.Node.token_runs.Goals as goal
 
 pub returns-then-not-is_within : goal.returns-then-not-is_within

@@ -1,8 +1,7 @@
 use Rattle.std.proofs.Common.{◌≡◌, ◌≤◌, ◌∙◌, ap, sym, subst}
 use Rattle.intervals.specs.rule.Bytes.{Range}
-use Rattle.messages.specs.rule.Wants.{Wants}
-use Rattle.token_set.specs.rule.Tokens.{token_of}
-use Rattle.token_set.specs.rule.Tokens.{desired}
+use Rattle.messages.specs.rule.TokenRuns.{Wants}
+use Rattle.token_set.specs.rule.Tokens.{token_of, desired}
 use Rattle.node_core.specs.rule.Parts.{NodeParts, node_state}
 use Rattle.node_core.proofs.NodeLaws.{desired-ends}
 use Rattle.node_core.proofs.node.Node.wanted_by.Goals as goal

@@ -1,8 +1,8 @@
 use Rattle.std.specs.Prelude.{◌==◌, not, filter}
 use Rattle.std.proofs.Common.{ap, sym, ◌∙◌, rules, tests}
 use Rattle.std.proofs.lemmas.Fn.{filter_same}
-use Rattle.node_core.specs.code.Hints.{IsHinted}
-use Rattle.node_core.proofs.CallLaws.{filter-absent}
+use Rattle.node_core.specs.code.Plans.{IsHinted}
+use Rattle.node_core.proofs.NodeLaws.{filter-absent}
 use Rattle.node_core.proofs.open_calls.OpenCalls.drop_calls_of.Goals as goal
 
 pub returns-then-has_caller : goal.returns-then-has_caller

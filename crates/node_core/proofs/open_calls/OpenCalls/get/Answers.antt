@@ -2,8 +2,8 @@ use Rattle.std.specs.Prelude.{◌==◌, find}
 use Rattle.std.proofs.Common.{ap, sym, ◌∙◌, rules, tests}
 use Rattle.std.proofs.lemmas.Iterator.{YieldsList-from_slice}
 use Rattle.std.proofs.lemmas.Iterator.Search.{find_from_yields_List}
-use Rattle.node_core.specs.code.Hints.{IsHinted}
-use Rattle.node_core.proofs.CallLaws.{find-absent}
+use Rattle.node_core.specs.code.Plans.{IsHinted}
+use Rattle.node_core.proofs.NodeLaws.{find-absent}
 use Rattle.node_core.proofs.open_calls.OpenCalls.get.Goals as goal
 
 pub returns-then-not-has_number : goal.returns-then-not-has_number

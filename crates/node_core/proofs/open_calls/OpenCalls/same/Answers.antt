@@ -2,7 +2,7 @@ use Rattle.std.specs.Prelude.{slice_get, slice_index_or, refl}
 use Rattle.std.proofs.Common.{◌≡◌, arith, ap, sym, subst, ◌∙◌}
 use Rattle.std.proofs.lemmas.Option.{slice_get_read}
 use Rattle.node_core.specs.declared.open_call.OpenCall.{OpenCall}
-use Rattle.node_core.proofs.CallLaws.{same-next}
+use Rattle.node_core.proofs.NodeLaws.{same-next}
 use Rattle.node_core.proofs.open_calls.OpenCalls.same.Goals as goal
 
 pub loop-i-preserved : goal.loop-i-preserved

@@ -3,7 +3,7 @@ use Rattle.std.specs.Prelude.{is_some, if◌then◌else◌}
 use Rattle.std.proofs.lemmas.Grind.{common_steps}
 use Rattle.model.specs.declared.host.Host.{Host}
 use Rattle.model.specs.rule.Owners.{host_of_call, same_host}
-use Rattle.placement.specs.code.CallIndexes.{row_of}
+use Rattle.placement.specs.code.Indexes.{row_of}
 use Rattle.placement.proofs.CallIndexes.{taken-row, taken-other}
 use Rattle.placement.proofs.call_index.CallIndex.note.Goals as goal
 

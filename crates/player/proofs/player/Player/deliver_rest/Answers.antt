@@ -1,8 +1,7 @@
 use Rattle.std.proofs.Common.{◌<◌, ℕ, ◌∙◌, ap, length, refl, subst, sym}
 use Rattle.std.proofs.lemmas.Option.{slice_get_within}
 use Rattle.cluster_core.specs.rule.Journals.{RunFields}
-use Rattle.player.specs.code.Parts.{PlayerParts}
-use Rattle.player.specs.code.Rounds.{GoesQuietly}
+use Rattle.player.specs.code.Rounds.{PlayerParts, GoesQuietly}
 use Rattle.player.proofs.QuietRuns.{quietly_append, quietly_none}
 use Rattle.player.proofs.player.Player.deliver_rest.Goals as goal
 

@@ -7,8 +7,8 @@ use Rattle.cluster_core.specs.rule.Runs.{Leads}
 use Rattle.cluster_core.specs.rule.Safe.{IsSafe}
 use Rattle.cluster_core.specs.rule.World.{first_world}
 use Rattle.cluster_core.proofs.runs.JournalRuns.{leads_shape}
-use Rattle.player.specs.code.Parts.{PlayerParts, PlayedParts, progress, state_of}
-use Rattle.player.specs.rule.Played.{PlayedState, played_of}
+use Rattle.player.specs.code.Rounds.{PlayerParts, PlayedParts, progress, state_of}
+use Rattle.player.specs.rule.Progress.{PlayedState, played_of}
 use Rattle.player.proofs.player.Player.finish.Goals as goal
 
 pub new-requires : goal.new-requires

@@ -1,7 +1,6 @@
 use Rattle.std.proofs.Common.{◌≡◌, ◌∙◌, subst, sym}
 use Rattle.std.proofs.lemmas.Result.{err_from_is_err_and, IfErr-weaker, IfOk-weaker}
-use Rattle.player.specs.code.Parts.{PlayerParts}
-use Rattle.player.specs.code.Rounds.{GoesQuietly}
+use Rattle.player.specs.code.Rounds.{PlayerParts, GoesQuietly}
 use Rattle.player.proofs.QuietRuns.{quietly_append}
 use Rattle.player.proofs.RoundEnds.{calm_behind, goes_shape, stops_behind, stops_sent}
 use Rattle.player.proofs.player.Player.go_round.Goals as goal

@@ -1,6 +1,6 @@
 use Rattle.std.proofs.Common.{◌-◌, ◌^◌, List, Some}
 use Rattle.messages.specs.declared.message.Message.{Message}
-use Rattle.player.specs.code.Parts.{progress}
+use Rattle.player.specs.code.Rounds.{progress}
 use Rattle.player.specs.rule.Progress.{Delivers, InTurn}
 use Rattle.player.proofs.player.Player.settle.Given as goal
 

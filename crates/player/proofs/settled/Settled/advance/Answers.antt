@@ -1,5 +1,5 @@
 use Rattle.std.proofs.Common.{ap, sym, ◌∙◌, ◌+◌, arith}
-use Rattle.player.specs.code.Settled.{SettledParts}
+use Rattle.player.specs.code.Rounds.{SettledParts}
 use Rattle.player.proofs.Marks.{settled-again, settled-least, settled-pass}
 use Rattle.player.proofs.settled.Settled.advance.Goals as goal
 

@@ -1,5 +1,5 @@
 use Rattle.std.proofs.Common.{◌≡◌, ◌≤◌, ◌-◌, ◌^◌}
-use Rattle.player.specs.code.Settled.{settled_in}
+use Rattle.player.specs.code.Rounds.{settled_in}
 use Rattle.player.proofs.settled.Settled.advance.Given as goal
 
 abbrev pub invariant-loop-self : goal.invariant-loop-self

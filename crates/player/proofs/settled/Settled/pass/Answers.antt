@@ -1,5 +1,5 @@
 use Rattle.std.proofs.Common.{ap, ◌+◌}
-use Rattle.player.specs.code.Settled.{SettledParts}
+use Rattle.player.specs.code.Rounds.{SettledParts}
 use Rattle.player.proofs.Marks.{settled-pass}
 use Rattle.player.proofs.settled.Settled.pass.Goals as goal
 

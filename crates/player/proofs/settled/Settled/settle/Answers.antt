@@ -1,6 +1,6 @@
 use Rattle.std.proofs.Common.{◌<◌, ap, refl, ◌∙◌, length, rules, ℕ, Bool}
 use Rattle.player.specs.rule.Progress.{with_settled}
-use Rattle.player.specs.code.Settled.{SettledParts}
+use Rattle.player.specs.code.Rounds.{SettledParts}
 use Rattle.player.proofs.Marks.{settled-mark, settled-push}
 use Rattle.player.proofs.settled.Settled.settle.Goals as goal
 

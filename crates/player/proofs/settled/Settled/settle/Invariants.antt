@@ -1,5 +1,5 @@
 use Rattle.std.proofs.Common.{◌≡◌, ◌-◌, ◌+◌, length}
-use Rattle.player.specs.code.Settled.{SettledParts, settled_in}
+use Rattle.player.specs.code.Rounds.{SettledParts, settled_in}
 use Rattle.player.proofs.settled.Settled.settle.Given as goal
 
 abbrev pub invariant-loop-self : goal.invariant-loop-self

@@ -2,10 +2,9 @@ use Rattle.std.specs.Prelude.{true}
 use Rattle.std.specs.BTreeMap as tree
 use Rattle.std.specs.Ordering.{nat_cmp}
 use Rattle.std.proofs.Common.{◌≡◌, ◌⊎◌, ℕ, Some, sym, ◌∙◌, subst}
-use Rattle.messages.specs.rule.Parts.{MembersParts, members_state}
-use Rattle.thread_runs.specs.rule.Lines.{parts}
+use Rattle.messages.specs.rule.Members.{MembersParts, members_state}
+use Rattle.thread_runs.specs.rule.Runs.{parts, MayCallCome, declares}
 use Rattle.thread_runs.specs.code.Awaited.{members_of}
-use Rattle.thread_runs.specs.rule.Denials.{MayCallCome, declares}
 use Rattle.lockscript.specs.declared.script_line.ScriptCommand.{ScriptCommand}
 use Rattle.thread_runs.proofs.Denied.{call_may, if_ok, met_past}
 use Rattle.thread_runs.proofs.denials.PassedMembers.pass.Goals as goal

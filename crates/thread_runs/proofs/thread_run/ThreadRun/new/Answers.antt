@@ -2,9 +2,7 @@ use Rattle.std.specs.Prelude.{List, All, filter_map}
 use Rattle.std.proofs.Common.{rules, subst}
 use Rattle.messages.specs.declared.entry.Entry.{Entry}
 use Rattle.thread_runs.specs.declared.played_line.PlayedLine.{PlayedLine}
-use Rattle.thread_runs.specs.rule.Cuts.{AreBarred, IsUnanswered, killed_by}
-use Rattle.thread_runs.specs.rule.Denials.{MayAllCome, first_of}
-use Rattle.thread_runs.specs.rule.Lines.{parts}
+use Rattle.thread_runs.specs.rule.Runs.{AreBarred, IsUnanswered, killed_by, MayAllCome, first_of, parts}
 use Rattle.thread_runs.proofs.thread_run.ThreadRun.new.Goals as goal
 
 pub returns-clause-of_script : goal.returns-clause-of_script

@@ -1,7 +1,7 @@
 use Rattle.std.specs.Prelude.{◌+◌, length}
 use Rattle.std.proofs.Common.{ap, sym, subst, ◌∙◌}
 use Rattle.std.proofs.lemmas.List.{length_push}
-use Rattle.token_server.specs.code.Rebuilds.{AreRebuilt}
+use Rattle.token_server.specs.code.Rows.{AreRebuilt}
 use Rattle.token_server.proofs.RebuildLaws.{rebuilt-push}
 use Rattle.token_server.proofs.known_nodes.known_nodes.rebuilt.Goals as goal
 

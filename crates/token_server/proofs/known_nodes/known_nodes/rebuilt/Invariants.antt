@@ -1,5 +1,5 @@
 use Rattle.std.specs.Prelude.{◌≡◌, length}
-use Rattle.token_server.specs.code.Rebuilds.{AreRebuilt}
+use Rattle.token_server.specs.code.Rows.{AreRebuilt}
 use Rattle.token_server.proofs.known_nodes.known_nodes.rebuilt.Given as goal
 
 abbrev pub invariant-loop-place : goal.invariant-loop-place

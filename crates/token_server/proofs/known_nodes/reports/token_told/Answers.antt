@@ -3,12 +3,11 @@ use Rattle.std.proofs.Common.{sym, ap, subst, ◌∙◌, drop, drop-cons}
 use Rattle.std.proofs.lemmas.List.{take_more, take-append-drop}
 use Rattle.std.proofs.lemmas.List.Elements.{All-push}
 use Rattle.intervals.specs.rule.Bytes.{Range}
-use Rattle.token_set.specs.rule.Tokens.{raised}
-use Rattle.token_set.specs.rule.Tokens.{token_of}
+use Rattle.token_set.specs.rule.Tokens.{raised, token_of}
 use Rattle.messages.specs.declared.token_run.TokenRun.{TokenRun}
 use Rattle.messages.specs.rule.TokenRuns.{are_longest}
-use Rattle.messages.specs.rule.Reports.{reported}
-use Rattle.token_server.proofs.ReportLaws.{HasByte, reported-more}
+use Rattle.messages.specs.rule.Messages.{reported}
+use Rattle.token_server.proofs.KnownNodeLaws.{HasByte, reported-more}
 use Rattle.token_server.proofs.known_nodes.reports.token_told.Goals as goal
 
 pub loop-place-preserved : goal.loop-place-preserved

@@ -1,7 +1,7 @@
 use Rattle.std.specs.Prelude.{◌≡◌, All, take}
 use Rattle.token_set.specs.rule.Tokens.{token_of}
-use Rattle.messages.specs.rule.Reports.{reported}
-use Rattle.token_server.proofs.ReportLaws.{HasByte}
+use Rattle.messages.specs.rule.Messages.{reported}
+use Rattle.token_server.proofs.KnownNodeLaws.{HasByte}
 use Rattle.token_server.proofs.known_nodes.reports.token_told.Given as goal
 
 abbrev pub invariant-loop-place : goal.invariant-loop-place

@@ -2,8 +2,7 @@ use Rattle.std.specs.Prelude.{◌++◌}
 use Rattle.std.proofs.Common.{sym, subst}
 use Rattle.token_server.specs.rule.Actives.{requests_of}
 use Rattle.token_server.specs.rule.Parts.{ServerParts}
-use Rattle.token_server.specs.code.Ready.{AreDistinct}
-use Rattle.token_server.specs.code.Sketches.{without, queue_moved}
+use Rattle.token_server.specs.code.Edits.{AreDistinct, without, queue_moved}
 use Rattle.token_server.proofs.ComesLaws.{distinct-first, distinct-before_moved}
 use Rattle.token_server.proofs.server.Server.admit.Goals as goal
 

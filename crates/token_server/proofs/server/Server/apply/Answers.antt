@@ -4,12 +4,10 @@ use Rattle.token_server.specs.declared.token_queue.active_request.ActiveRequest.
 use Rattle.token_server.specs.declared.token_queue.token_request.TokenRequest.{TokenRequest}
 use Rattle.token_server.specs.rule.Actives.{requests_of, waiting_for}
 use Rattle.token_server.specs.rule.Parts.{ServerParts}
-use Rattle.token_server.specs.code.Admitting.{all_but}
-use Rattle.token_server.specs.code.Ready.{AreDistinct}
-use Rattle.token_server.specs.code.Sketches.{without, queue_moved, waiting_moved}
-use Rattle.token_server.specs.code.Edits.{held_still, held_without, IsNewCall, many_moved}
+use Rattle.token_server.specs.code.Admissions.{all_but}
+use Rattle.token_server.specs.code.Edits.{AreDistinct, without, queue_moved, waiting_moved, held_still, held_without, IsNewCall, many_moved}
 use Rattle.token_server.proofs.ComesLaws.{distinct-first}
-use Rattle.token_server.proofs.EndLaws.{distinct-kept}
+use Rattle.token_server.proofs.OrderlyLaws.{distinct-kept}
 use Rattle.token_server.proofs.ReadyLaws.{applied, parts-fit, room-none, held_room-none}
 use Rattle.token_server.proofs.server.Server.apply.Goals as goal
 

@@ -3,7 +3,7 @@ use Rattle.std.proofs.Common.{arith, ap, ◌∙◌}
 use Rattle.model.specs.rule.Limits.{HostFields}
 use Rattle.token_server.specs.rule.State.{begin}
 use Rattle.token_server.specs.rule.Parts.{ServerParts, server_state}
-use Rattle.token_server.specs.code.Sketches.{sketched}
+use Rattle.token_server.specs.code.Edits.{sketched}
 use Rattle.token_server.proofs.SketchLaws.{asked-from}
 use Rattle.token_server.proofs.server.Server.ask.Goals as goal
 

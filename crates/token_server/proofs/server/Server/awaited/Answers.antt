@@ -9,9 +9,7 @@ use Rattle.token_server.specs.declared.known_nodes.known_change.Changed.{Changed
 use Rattle.token_server.specs.rule.Obstacles.{obstacle}
 use Rattle.token_server.specs.rule.RowParts.{rows_of}
 use Rattle.token_server.specs.rule.Parts.{ServerParts, server_state}
-use Rattle.token_server.specs.code.Marks.{NoneExclusive}
-use Rattle.token_server.specs.code.Changes.{rows_after}
-use Rattle.token_server.specs.code.RowEdits.{rows_overlaid}
+use Rattle.token_server.specs.code.Rows.{NoneExclusive, rows_after, rows_overlaid}
 use Rattle.token_server.specs.code.Edits.{reached}
 use Rattle.token_server.proofs.AwaitLaws.{Await, await-more, await-first, unfreed-all}
 use Rattle.token_server.proofs.TurnLaws.{read-place, take-next}

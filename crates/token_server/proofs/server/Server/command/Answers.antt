@@ -2,18 +2,16 @@ use Rattle.std.specs.Prelude.{◌≡◌, ℕ, Option, Some, Result, Ok}
 use Rattle.std.specs.Option.{option_map}
 use Rattle.std.proofs.Common.{sym, ap, refl, ◌∙◌}
 use Rattle.messages.specs.declared.refusal.StepError.{StepError}
-use Rattle.messages.specs.rule.Epochs.{before_epoch}
+use Rattle.messages.specs.rule.Shapes.{before_epoch}
 use Rattle.token_server.specs.declared.sent_command.SentCommand.{SentCommand}
 use Rattle.token_server.specs.rule.Rows.{Commands}
 use Rattle.token_server.specs.rule.State.{ServerState, begin}
-use Rattle.token_server.specs.code.Sent.{next_number}
+use Rattle.token_server.specs.code.Rows.{next_number}
 use Rattle.token_server.specs.rule.Parts.{ServerParts}
-use Rattle.token_server.specs.code.Sketches.{commands_of}
+use Rattle.token_server.specs.code.Edits.{commands_of, with_told, drafted}
 use Rattle.token_server.specs.declared.known_nodes.server_command.Order.TheVariants.{Revoke}
 use Rattle.token_server.specs.rule.Serve.{narrowed}
 use Rattle.token_server.specs.code.Orders.{message_of}
-use Rattle.token_server.specs.code.Told.{with_told}
-use Rattle.token_server.specs.code.Edits.{drafted}
 use Rattle.token_server.proofs.ToldLaws.{has_number}
 use Rattle.token_server.proofs.TurnLaws.{turn-gone, turn-sent}
 use Rattle.token_server.proofs.server.Server.command.Goals as goal

@@ -7,9 +7,7 @@ use Rattle.token_server.specs.declared.change.ServerEdit.{ServerEdit}
 use Rattle.token_server.specs.rule.State.{ServerState}
 use Rattle.token_server.specs.rule.Obstacles.{is_idle}
 use Rattle.token_server.specs.rule.Serve.{each_served}
-use Rattle.token_server.specs.code.Told.{with_told, commands_told}
-use Rattle.token_server.specs.code.Edits.{held_after, drafted}
-use Rattle.token_server.specs.code.Turns.{kept_of}
+use Rattle.token_server.specs.code.Edits.{with_told, commands_told, held_after, drafted, kept_of}
 use Rattle.token_server.proofs.ToldLaws.{Answer}
 use Rattle.token_server.proofs.TurnLaws.{read-place, waits-here, turn-spent, fresh-split, fresh-turn, served-whole}
 use Rattle.token_server.proofs.server.Server.commands.Goals as goal

@@ -1,7 +1,6 @@
 use Rattle.std.specs.Prelude.{◌++◌}
 use Rattle.std.proofs.Common.{take}
-use Rattle.token_server.specs.code.Edits.{held_after, drafted}
-use Rattle.token_server.specs.code.Turns.{kept_of, AreServed}
+use Rattle.token_server.specs.code.Edits.{held_after, drafted, kept_of, AreServed}
 use Rattle.token_server.proofs.server.Server.commands.Given as goal
 
 abbrev pub invariant-loop-held : goal.invariant-loop-held

@@ -9,10 +9,8 @@ use Rattle.token_server.specs.declared.change.ServerEdit.{ServerEdit}
 use Rattle.token_server.specs.declared.sent_command.SentCommand.{SentCommand}
 use Rattle.token_server.specs.rule.State.{ServerState}
 use Rattle.token_server.specs.rule.Obstacles.{is_idle}
-use Rattle.token_server.specs.code.Told.{told_to}
+use Rattle.token_server.specs.code.Edits.{told_to, keeps, held_after, drafted, kept, kept_of, AreServed}
 use Rattle.token_server.specs.rule.Parts.{ServerParts, server_state}
-use Rattle.token_server.specs.code.Edits.{keeps, held_after, drafted}
-use Rattle.token_server.specs.code.Turns.{kept, kept_of, AreServed}
 use Rattle.token_server.proofs.TurnLaws.{read-place, waits-place, quiet-place, waits-here, turn-spent, kept-split, kept-turn, kept-left, kept-silent, kept-rest, quiet-told, copied-some, told-quiet, served-start, index-past, rest-untouched, rest-told}
 use Rattle.token_server.proofs.server.Server.commands_kept.Goals.{then-keeps+in_ok-serve_one, else-keeps}
 use Rattle.token_server.proofs.server.Server.commands_kept.Goals as goal

@@ -1,7 +1,6 @@
 use Rattle.std.proofs.Common.{take}
 use Rattle.token_server.specs.rule.Actives.{waiting_for}
-use Rattle.token_server.specs.code.Edits.{held_after, drafted}
-use Rattle.token_server.specs.code.Turns.{kept, AreServed}
+use Rattle.token_server.specs.code.Edits.{held_after, drafted, kept, AreServed}
 use Rattle.token_server.proofs.server.Server.commands_kept.Given as goal
 
 abbrev pub invariant-loop-place : goal.invariant-loop-place

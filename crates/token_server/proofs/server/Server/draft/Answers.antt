@@ -9,13 +9,10 @@ use Rattle.token_server.specs.rule.Rows.{Row, is_awaited}
 use Rattle.token_server.specs.rule.RowParts.{rows_of, deaths_of}
 use Rattle.token_server.specs.rule.Parts.{ServerParts, server_state}
 use Rattle.token_server.specs.rule.State.{awaits}
-use Rattle.token_server.specs.code.Admitting.{IsAdmitted}
+use Rattle.token_server.specs.code.Admissions.{IsAdmitted}
 use Rattle.token_server.specs.rule.Obstacles.{obstacle}
-use Rattle.token_server.specs.code.Ready.{AreDistinct, IsReady}
-use Rattle.token_server.specs.code.Changes.{rows_after, deaths_after}
-use Rattle.token_server.specs.code.RowEdits.{rows_overlaid, deaths_overlaid}
-use Rattle.token_server.specs.code.Sketches.{without, still_active, queue_moved, waiting_moved, sketched}
-use Rattle.token_server.specs.code.Edits.{reached, IsDrafted}
+use Rattle.token_server.specs.code.Edits.{AreDistinct, IsReady, without, still_active, queue_moved, waiting_moved, sketched, reached, IsDrafted}
+use Rattle.token_server.specs.code.Rows.{rows_after, deaths_after, rows_overlaid, deaths_overlaid}
 use Rattle.token_server.proofs.AskedLaws.{none-after}
 use Rattle.token_server.proofs.ReadyLaws.{distinct-queue, kept-all}
 use Rattle.token_server.proofs.server.Server.draft.Goals as goal

@@ -5,11 +5,11 @@ use Rattle.token_server.specs.declared.known_nodes.known_node.KnownNode.{KnownNo
 use Rattle.token_server.specs.rule.Rows.{Row, row_conflicts, row_conflicts_at}
 use Rattle.token_server.specs.rule.Parts.{ServerParts}
 use Rattle.token_server.specs.declared.sent_command.SentCommand.{SentCommand}
-use Rattle.token_server.specs.code.Told.{told_to, row_told}
-use Rattle.token_server.specs.code.RowEdits.{seen, rows_overlaid}
-use Rattle.token_server.proofs.MarkLaws.{row_free}
+use Rattle.token_server.specs.code.Edits.{told_to, row_told}
+use Rattle.token_server.specs.code.Rows.{seen, rows_overlaid}
+use Rattle.token_server.proofs.KnownNodeLaws.{row_free}
 use Rattle.token_server.proofs.GrantLaws.{free_around-none}
-use Rattle.token_server.proofs.BarLaws.{told-nothing, told-clear, around-cut}
+use Rattle.token_server.proofs.ObstacleLaws.{told-nothing, told-clear, around-cut}
 use Rattle.token_server.proofs.server.Server.free_around.Goals as goal
 
 pub returns-in_default : goal.returns-in_default

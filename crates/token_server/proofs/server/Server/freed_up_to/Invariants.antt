@@ -1,6 +1,6 @@
 use Rattle.std.specs.Prelude.{◌≡◌, ◌≤◌, false, All, length}
 use Rattle.std.proofs.Common.{take, drop}
-use Rattle.token_server.specs.code.Obstacles.{may_turn}
+use Rattle.token_server.specs.code.Admissions.{may_turn}
 use Rattle.token_server.specs.rule.RowParts.{rows_of}
 use Rattle.token_server.proofs.server.Server.freed_up_to.Given as goal
 

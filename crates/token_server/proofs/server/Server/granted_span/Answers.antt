@@ -3,10 +3,8 @@ use Rattle.std.proofs.Common.{subst, sym, ap, ◌∙◌, arith}
 use Rattle.intervals.specs.rule.Bytes.{Range}
 use Rattle.token_server.specs.rule.Serve.{narrowed}
 use Rattle.token_server.specs.rule.Parts.{ServerParts}
-use Rattle.token_server.specs.code.Told.{with_told}
-use Rattle.token_server.specs.code.Edits.{drafted}
-use Rattle.token_server.proofs.GrantLaws.{narrowed-begin, narrowed-holds, narrowed-free, narrowed-more, narrowed-skip, narrowed-end, granted-exact}
-use Rattle.token_server.proofs.SpanLaws.{one_span}
+use Rattle.token_server.specs.code.Edits.{with_told, drafted}
+use Rattle.token_server.proofs.GrantLaws.{narrowed-begin, narrowed-holds, narrowed-free, narrowed-more, narrowed-skip, narrowed-end, granted-exact, one_span}
 use Rattle.token_server.proofs.server.Server.granted_span.Goals.{then-not-is_of_node, else-not-is_of_node}
 use Rattle.token_server.proofs.server.Server.granted_span.Goals as goal
 

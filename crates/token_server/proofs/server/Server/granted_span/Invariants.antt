@@ -1,5 +1,4 @@
-use Rattle.token_server.specs.code.Told.{with_told}
-use Rattle.token_server.specs.code.Edits.{drafted}
+use Rattle.token_server.specs.code.Edits.{with_told, drafted}
 use Rattle.token_server.proofs.GrantLaws.{IsNarrowed}
 use Rattle.token_server.proofs.server.Server.granted_span.Given as goal
 

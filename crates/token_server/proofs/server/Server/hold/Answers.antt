@@ -1,6 +1,6 @@
 use Rattle.std.proofs.Common.{subst}
 use Rattle.token_server.specs.rule.Parts.{ServerParts}
-use Rattle.token_server.specs.code.Marks.{NoneExclusive}
+use Rattle.token_server.specs.code.Rows.{NoneExclusive}
 use Rattle.token_server.specs.code.Edits.{reached}
 use Rattle.token_server.proofs.server.Server.hold.Goals as goal
 

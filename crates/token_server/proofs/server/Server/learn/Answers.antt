@@ -11,11 +11,9 @@ use Rattle.token_server.specs.rule.Serve.{serve}
 use Rattle.token_server.specs.rule.Resends.{sending_first}
 use Rattle.token_server.specs.rule.Server.{learn_rule}
 use Rattle.token_server.specs.rule.Parts.{ServerParts, server_state}
-use Rattle.token_server.specs.code.Ready.{IsOrderly}
-use Rattle.token_server.specs.code.Sketches.{sketched}
-use Rattle.token_server.specs.code.Edits.{planned}
+use Rattle.token_server.specs.code.Edits.{IsOrderly, sketched, planned}
 use Rattle.token_server.proofs.OrderlyLaws.{orderly-forgotten, orderly-requeued}
-use Rattle.token_server.proofs.RefusalLaws.{learn-spent}
+use Rattle.token_server.proofs.SketchLaws.{learn-spent}
 use Rattle.token_server.proofs.server.Server.learn.Goals as goal
 
 abbrev Done : Type 0

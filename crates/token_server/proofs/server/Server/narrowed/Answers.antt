@@ -7,10 +7,8 @@ use Rattle.token_server.specs.rule.Actives.{requests_of}
 use Rattle.token_server.specs.declared.change.ServerEdit.{ServerEdit}
 use Rattle.token_server.specs.rule.Serve.{narrowed}
 use Rattle.token_server.specs.rule.Parts.{ServerParts}
-use Rattle.token_server.specs.code.Sketches.{without, still_active}
-use Rattle.token_server.specs.code.Told.{cut_all}
-use Rattle.token_server.proofs.SpanLaws.{one_span}
-use Rattle.token_server.proofs.CutLaws.{HasByte, IsLeft, left-all, left-exact}
+use Rattle.token_server.specs.code.Edits.{without, still_active, cut_all}
+use Rattle.token_server.proofs.GrantLaws.{one_span, HasByte, IsLeft, left-all, left-exact}
 use Rattle.token_server.proofs.TurnLaws.{held_after-requests}
 use Rattle.token_server.proofs.server.Server.narrowed.Goals as goal
 

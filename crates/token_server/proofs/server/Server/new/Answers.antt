@@ -1,12 +1,12 @@
 use Rattle.std.specs.Prelude.{◌≡◌, ℕ, ◌≤◌, Bool, false, IfSome, Option}
 use Rattle.std.proofs.Common.{sym, ap, subst, ◌∙◌, arith}
 use Rattle.intervals.specs.rule.Search.{some_passes}
-use Rattle.token_set.proofs.SearchLaws.{none_passes-from}
+use Rattle.token_set.proofs.TokenLaws.{none_passes-from}
 use Rattle.model.specs.rule.Limits.{IsNumber}
-use Rattle.messages.specs.rule.Epochs.{before_epoch}
+use Rattle.messages.specs.rule.Shapes.{before_epoch}
 use Rattle.token_server.specs.rule.Rows.{Row, is_awaited}
 use Rattle.token_server.specs.rule.RowParts.{rows_of}
-use Rattle.token_server.proofs.IdleLaws.{idle-server}
+use Rattle.token_server.proofs.ReaderLaws.{idle-server}
 use Rattle.token_server.proofs.server.Server.new.Goals as goal
 
 pub invariant_of-result : goal.invariant_of-result

@@ -3,7 +3,7 @@ use Rattle.std.proofs.Common.{sym, ap, subst, ◌∙◌, arith}
 use Rattle.token_server.specs.rule.RowParts.{deaths_of}
 use Rattle.token_server.specs.rule.Parts.{ServerParts, server_state}
 use Rattle.token_server.specs.rule.State.{requests}
-use Rattle.token_server.specs.code.Sketches.{dropped}
+use Rattle.token_server.specs.code.Edits.{dropped}
 use Rattle.token_server.proofs.CareLaws.{requests-parts}
 use Rattle.token_server.proofs.OrderlyLaws.{Living}
 use Rattle.token_server.proofs.ReadyLaws.{living-without}

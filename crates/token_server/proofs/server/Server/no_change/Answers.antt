@@ -9,9 +9,7 @@ use Rattle.token_server.specs.rule.State.{ServerState}
 use Rattle.token_server.specs.rule.Serve.{serve}
 use Rattle.token_server.specs.rule.Resends.{sending_first}
 use Rattle.token_server.specs.rule.Parts.{ServerParts, server_state}
-use Rattle.token_server.specs.code.Ready.{IsReady, IsOrderly}
-use Rattle.token_server.specs.code.Sketches.{sketched}
-use Rattle.token_server.specs.code.Edits.{planned}
+use Rattle.token_server.specs.code.Edits.{IsReady, IsOrderly, sketched, planned}
 use Rattle.token_server.proofs.ReadyLaws.{nothing-served, never-refused}
 use Rattle.token_server.proofs.server.Server.no_change.Goals as goal
 

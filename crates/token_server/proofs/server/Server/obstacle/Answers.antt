@@ -7,9 +7,9 @@ use Rattle.model.specs.declared.mode.Mode.TheVariants.{Read, Write}
 use Rattle.model.specs.contracts.mode.ModePartialEq.TheImpl as derived
 use Rattle.token_server.specs.declared.token_queue.token_request.TokenRequest.{TokenRequest}
 use Rattle.token_server.specs.rule.Rows.{row_conflicts}
-use Rattle.token_server.specs.code.Marks.{NoneExclusive}
+use Rattle.token_server.specs.code.Rows.{NoneExclusive}
 use Rattle.token_server.specs.code.Edits.{reached}
-use Rattle.token_server.proofs.MarkLaws.{exclusive-readable}
+use Rattle.token_server.proofs.KnownNodeLaws.{exclusive-readable}
 use Rattle.token_server.proofs.AwaitLaws.{unopposed-own}
 use Rattle.token_server.proofs.server.Server.obstacle.Goals as goal
 

@@ -1,8 +1,7 @@
 use Rattle.std.specs.Prelude.{◌≡◌}
 use Rattle.std.proofs.Common.{sym, ap, ◌∙◌, arith}
 use Rattle.token_server.specs.rule.Parts.{ServerParts}
-use Rattle.token_server.specs.code.Told.{with_told}
-use Rattle.token_server.specs.code.Edits.{drafted}
+use Rattle.token_server.specs.code.Edits.{with_told, drafted}
 use Rattle.token_server.proofs.TurnLaws.{own-unopposed, other-within}
 use Rattle.token_server.proofs.server.Server.order.Goals as goal
 

@@ -7,10 +7,9 @@ use Rattle.messages.specs.rule.Messages.{host_of}
 use Rattle.token_server.specs.declared.sketch.Sketch.{Sketch}
 use Rattle.token_server.specs.rule.RowParts.{deaths_of}
 use Rattle.token_server.specs.rule.Parts.{ServerParts, server_state}
-use Rattle.token_server.specs.code.Ready.{IsOrderly}
-use Rattle.token_server.specs.code.Sketches.{sketched}
+use Rattle.token_server.specs.code.Edits.{IsOrderly, sketched}
 use Rattle.token_server.proofs.OrderlyLaws.{orderly-delivered}
-use Rattle.token_server.proofs.RefusalLaws.{deliver-spent}
+use Rattle.token_server.proofs.SketchLaws.{deliver-spent}
 use Rattle.token_server.proofs.server.Server.plan_delivery.Goals as goal
 
 pub serve_after-requires-clause-orderly : goal.serve_after-requires-clause-orderly

@@ -5,7 +5,7 @@ use Rattle.model.specs.rule.Limits.{IsNumber}
 use Rattle.token_server.specs.rule.Rows.{is_awaited}
 use Rattle.token_server.specs.rule.RowParts.{rows_of}
 use Rattle.token_server.proofs.RebuildLaws.{rebuilt-counted}
-use Rattle.token_server.proofs.IdleLaws.{idle-server}
+use Rattle.token_server.proofs.ReaderLaws.{idle-server}
 use Rattle.token_server.proofs.server.Server.rebuild.Goals as goal
 
 pub invariant_of-server : goal.invariant_of-server

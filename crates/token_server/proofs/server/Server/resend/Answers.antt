@@ -10,11 +10,9 @@ use Rattle.token_server.specs.rule.Rows.{outstanding_to}
 use Rattle.token_server.specs.rule.Resends.{outstanding, sending_first, resend_rule}
 use Rattle.token_server.specs.rule.RowParts.{rows_of}
 use Rattle.token_server.specs.rule.Parts.{ServerParts, server_state}
-use Rattle.token_server.specs.code.Ready.{IsOrderly}
-use Rattle.token_server.specs.code.Sketches.{sketched}
-use Rattle.token_server.specs.code.Edits.{planned}
+use Rattle.token_server.specs.code.Edits.{IsOrderly, sketched, planned}
 use Rattle.token_server.proofs.OrderlyLaws.{orderly-requeued}
-use Rattle.token_server.proofs.RefusalLaws.{resend-spent}
+use Rattle.token_server.proofs.SketchLaws.{resend-spent}
 use Rattle.token_server.proofs.server.Server.resend.Goals as goal
 
 abbrev Done : Type 0

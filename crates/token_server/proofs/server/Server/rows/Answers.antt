@@ -3,7 +3,7 @@ use Rattle.std.proofs.Common.{sym, ap, subst, ◌∙◌, arith, map}
 use Rattle.std.proofs.lemmas.List.Elements.{All-push}
 use Rattle.token_server.specs.declared.shown_row.ShownRow.{ShownRow}
 use Rattle.token_server.specs.rule.Parts.{server_state}
-use Rattle.token_server.specs.code.Readers.{IsRow}
+use Rattle.token_server.specs.code.Rows.{IsRow}
 use Rattle.token_server.proofs.ReaderLaws.{shown-more, shown-same}
 use Rattle.token_server.proofs.server.Server.rows.Goals.{in-Some+in_ok-push, in_default}
 use Rattle.token_server.proofs.server.Server.rows.Goals as goal

@@ -1,6 +1,6 @@
 use Rattle.std.specs.Prelude.{◌≡◌, All, map, is_some}
 use Rattle.token_server.specs.rule.Parts.{server_state}
-use Rattle.token_server.specs.code.Readers.{nodes_where, IsRow}
+use Rattle.token_server.specs.code.Rows.{nodes_where, IsRow}
 use Rattle.token_server.proofs.server.Server.rows.Given as goal
 
 abbrev pub invariant-loop-place : goal.invariant-loop-place

@@ -2,10 +2,8 @@ use Rattle.std.specs.Prelude.{◌≡◌, ℕ, ◌≤◌, List, length}
 use Rattle.std.proofs.Common.{sym, ap, subst, ◌∙◌}
 use Rattle.token_server.specs.declared.change.ServerEdit.{ServerEdit}
 use Rattle.token_server.specs.declared.token_queue.active_request.ActiveRequest.{ActiveRequest}
-use Rattle.token_server.specs.code.Ready.{AreDistinct}
-use Rattle.token_server.specs.code.Sketches.{without, sketched}
+use Rattle.token_server.specs.code.Edits.{AreDistinct, without, sketched, IsDrafted, IsServed, PartsFit, HasRoom, HeldHasRoom, many_moved, many_put_off}
 use Rattle.token_server.specs.rule.Parts.{ServerParts}
-use Rattle.token_server.specs.code.Edits.{IsDrafted, IsServed, PartsFit, HasRoom, HeldHasRoom, many_moved, many_put_off}
 use Rattle.token_server.proofs.ReadyLaws.{moved-new, distinct-queue, distinct-waiting, many-fewer, room-fewer}
 use Rattle.token_server.proofs.server.Server.serve.Goals as goal
 

@@ -7,10 +7,7 @@ use Rattle.messages.specs.declared.refusal.StepError.TheVariants.{NoMemory}
 use Rattle.token_server.specs.declared.sent_command.SentCommand.{SentCommand}
 use Rattle.token_server.specs.rule.State.{ServerState, awaits}
 use Rattle.token_server.specs.rule.Serve.{serve}
-use Rattle.token_server.specs.code.Told.{with_told, commands_told}
-use Rattle.token_server.specs.code.Ready.{IsReady}
-use Rattle.token_server.specs.code.Sketches.{sketched}
-use Rattle.token_server.specs.code.Edits.{drafted, held_after, made_of}
+use Rattle.token_server.specs.code.Edits.{with_told, commands_told, IsReady, sketched, drafted, held_after, made_of}
 use Rattle.token_server.proofs.ReadyLaws.{drafted-serves, drafted-orderly, drafted-apart, told-awaits, told-ready}
 use Rattle.token_server.proofs.server.Server.serve_draft.Goals as goal
 

@@ -4,7 +4,7 @@ use Rattle.std.proofs.lemmas.Bool.Decides.{eqb_tells}
 use Rattle.token_server.specs.declared.known_nodes.known_change.Changed.{Changed}
 use Rattle.token_server.specs.rule.Rows.{Row}
 use Rattle.token_server.specs.rule.RowParts.{rows_of}
-use Rattle.token_server.specs.code.Changes.{row_after, rows_after}
+use Rattle.token_server.specs.code.Rows.{row_after, rows_after}
 use Rattle.token_server.proofs.server.Server.touched.Goals as goal
 
 pub returns : goal.returns

@@ -2,8 +2,8 @@ use Rattle.std.specs.Prelude.{List, ◌++◌, Option}
 use Rattle.std.proofs.Common.{sym, ap, subst, ◌∙◌, append-nil, arith}
 use Rattle.std.proofs.lemmas.List.{take_all}
 use Rattle.token_server.specs.declared.token_queue.token_request.TokenRequest.{TokenRequest}
-use Rattle.token_server.specs.code.Admitting.{IsAdmitted}
-use Rattle.token_server.specs.code.Comes.{served_on, left_in}
+use Rattle.token_server.specs.code.Admissions.{IsAdmitted}
+use Rattle.token_server.specs.code.Edits.{served_on, left_in}
 use Rattle.token_server.proofs.ComesLaws.{without-nil}
 use Rattle.token_server.proofs.server.admitting.admit_each.Goals as goal
 

@@ -1,6 +1,6 @@
 use Rattle.std.proofs.Common.{◌++◌, take}
-use Rattle.token_server.specs.code.Admitting.{IsAdmitted}
-use Rattle.token_server.specs.code.Comes.{served_on, left_in}
+use Rattle.token_server.specs.code.Admissions.{IsAdmitted}
+use Rattle.token_server.specs.code.Edits.{served_on, left_in}
 use Rattle.token_server.proofs.server.admitting.admit_each.Given as goal
 
 abbrev pub invariant-loop-place : goal.invariant-loop-place

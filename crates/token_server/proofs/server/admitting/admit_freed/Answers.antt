@@ -4,8 +4,8 @@ use Rattle.std.proofs.lemmas.List.{take_all}
 use Rattle.token_server.specs.declared.token_queue.token_request.TokenRequest.{TokenRequest}
 use Rattle.token_server.specs.rule.Requests.{requests_in}
 use Rattle.token_server.specs.rule.Actives.{requests_of}
-use Rattle.token_server.specs.code.Admitting.{IsAdmitted}
-use Rattle.token_server.specs.code.Sketches.{still_active}
+use Rattle.token_server.specs.code.Admissions.{IsAdmitted}
+use Rattle.token_server.specs.code.Edits.{still_active}
 use Rattle.token_server.proofs.AdmittingLaws.{admitted-none}
 use Rattle.token_server.proofs.ComesLaws.{freed-rest}
 use Rattle.token_server.proofs.server.admitting.admit_freed.Goals as goal

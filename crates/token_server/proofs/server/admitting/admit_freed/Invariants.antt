@@ -2,8 +2,8 @@ use Rattle.std.specs.Prelude.{Some}
 use Rattle.std.proofs.Common.{take}
 use Rattle.token_server.specs.rule.Requests.{requests_in}
 use Rattle.token_server.specs.rule.Actives.{requests_of}
-use Rattle.token_server.specs.code.Admitting.{IsAdmitted}
-use Rattle.token_server.specs.code.Sketches.{still_active}
+use Rattle.token_server.specs.code.Admissions.{IsAdmitted}
+use Rattle.token_server.specs.code.Edits.{still_active}
 use Rattle.token_server.proofs.server.admitting.admit_freed.Given as goal
 
 abbrev pub invariant-loop-place : goal.invariant-loop-place

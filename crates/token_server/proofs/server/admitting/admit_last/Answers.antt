@@ -2,11 +2,9 @@ use Rattle.std.specs.Prelude.{◌≡◌, Bool, ◌||◌, List, [], ◌∷◌, �
 use Rattle.std.proofs.Common.{sym, ap, subst, ◌∙◌}
 use Rattle.token_server.specs.declared.token_queue.token_request.TokenRequest.{TokenRequest}
 use Rattle.token_server.specs.rule.Serve.{meets_some}
-use Rattle.token_server.specs.code.Admitting.{IsAdmitted}
-use Rattle.token_server.specs.code.Sketches.{without}
-use Rattle.token_server.specs.code.Comes.{served_on}
-use Rattle.token_server.proofs.AdmittingLaws.{or-end, admitted-stays, admitted-goes}
-use Rattle.token_server.proofs.FreedLaws.{distinct-before}
+use Rattle.token_server.specs.code.Admissions.{IsAdmitted}
+use Rattle.token_server.specs.code.Edits.{without, served_on}
+use Rattle.token_server.proofs.AdmittingLaws.{or-end, admitted-stays, admitted-goes, distinct-before}
 use Rattle.token_server.proofs.ComesLaws.{own-call, without-nil}
 use Rattle.token_server.proofs.server.admitting.admit_last.Goals as goal
 

@@ -1,8 +1,7 @@
 use Rattle.std.specs.Prelude.{◌++◌}
 use Rattle.std.proofs.Common.{sym, subst, inl, inr}
 use Rattle.token_server.specs.declared.sketch.Moved.{Moved}
-use Rattle.token_server.specs.code.Ready.{AreDistinct}
-use Rattle.token_server.specs.code.Sketches.{without, queue_moved}
+use Rattle.token_server.specs.code.Edits.{AreDistinct, without, queue_moved}
 use Rattle.token_server.proofs.server.admitting.admit_moved.Goals as goal
 
 pub admit_each-requires-clause-distinct : goal.admit_each-requires-clause-distinct

@@ -4,11 +4,10 @@ use Rattle.std.proofs.lemmas.List.{get_or_read}
 use Rattle.intervals.specs.rule.Bytes.{Range}
 use Rattle.token_server.specs.declared.token_queue.token_request.TokenRequest.{TokenRequest}
 use Rattle.token_server.specs.rule.Requests.{requests_in, meets}
-use Rattle.token_server.specs.code.Places.{request_at}
+use Rattle.token_server.specs.code.Admissions.{request_at, IsAdmitted}
 use Rattle.token_server.specs.rule.Actives.{requests_of}
 use Rattle.token_server.proofs.WalkLaws.{requests_in-more}
-use Rattle.token_server.specs.code.Admitting.{IsAdmitted}
-use Rattle.token_server.specs.code.Sketches.{still_active}
+use Rattle.token_server.specs.code.Edits.{still_active}
 use Rattle.token_server.proofs.ComesLaws.{freed-skip, freed-all}
 use Rattle.token_server.proofs.server.admitting.admit_next.Goals as goal
 

@@ -6,10 +6,8 @@ use Rattle.token_server.specs.declared.token_queue.token_request.TokenRequest.{T
 use Rattle.token_server.specs.rule.Requests.{is_of_call, requests_in}
 use Rattle.token_server.specs.rule.Actives.{requests_of}
 use Rattle.token_server.proofs.LineLaws.{filter-none}
-use Rattle.token_server.specs.code.Admitting.{IsAdmitted}
-use Rattle.token_server.specs.code.Ready.{AreDistinct}
-use Rattle.token_server.specs.code.Sketches.{without, still_active}
-use Rattle.token_server.specs.code.Comes.{HasEnded}
+use Rattle.token_server.specs.code.Admissions.{IsAdmitted}
+use Rattle.token_server.specs.code.Edits.{AreDistinct, without, still_active, HasEnded}
 use Rattle.token_server.proofs.AdmittingLaws.{admitted-settled}
 use Rattle.token_server.proofs.ComesLaws.{without-nil, stays-all}
 use Rattle.token_server.proofs.server.admitting.admit_queued.Goals as goal

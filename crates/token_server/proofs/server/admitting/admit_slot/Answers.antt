@@ -2,9 +2,8 @@ use Rattle.std.specs.Prelude.{◌≡◌, ◌+◌, List, [], ◌∷◌, ◌++◌,
 use Rattle.std.proofs.Common.{sym, ap, subst, ◌∙◌}
 use Rattle.std.proofs.lemmas.List.{get_or_read}
 use Rattle.token_server.specs.declared.token_queue.token_request.TokenRequest.{TokenRequest}
-use Rattle.token_server.specs.code.Places.{request_at}
-use Rattle.token_server.specs.code.Admitting.{IsAdmitted}
-use Rattle.token_server.specs.code.Comes.{served_on, left_in}
+use Rattle.token_server.specs.code.Admissions.{request_at, IsAdmitted}
+use Rattle.token_server.specs.code.Edits.{served_on, left_in}
 use Rattle.token_server.proofs.ComesLaws.{without-nil, without-dropped, without-other, comes-none, comes-stays, comes-goes}
 use Rattle.token_server.proofs.server.admitting.admit_slot.Goals.{then-drops-via-then-drops, then-drops-via-else-drops+then-must_stay}
 use Rattle.token_server.proofs.server.admitting.admit_slot.Goals as goal

@@ -6,7 +6,7 @@ use Rattle.std.proofs.lemmas.Iterator.Search.{any_from_yields_List}
 use Rattle.intervals.specs.rule.Bytes.{Range}
 use Rattle.token_server.specs.declared.token_queue.token_request.TokenRequest.{TokenRequest}
 use Rattle.token_server.specs.rule.Requests.{meets}
-use Rattle.token_server.specs.code.Comes.{left_in}
+use Rattle.token_server.specs.code.Edits.{left_in}
 use Rattle.token_server.proofs.ComesLaws.{meets-left}
 use Rattle.token_server.proofs.server.admitting.meets_left.Goals as goal
 

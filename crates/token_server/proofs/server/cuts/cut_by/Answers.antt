@@ -7,10 +7,8 @@ use Rattle.token_server.specs.declared.token_queue.token_request.TokenRequest.{T
 use Rattle.token_server.specs.rule.Actives.{requests_of}
 use Rattle.token_server.specs.declared.change.ServerEdit.{ServerEdit}
 use Rattle.token_server.specs.rule.Serve.{narrowed}
-use Rattle.token_server.specs.code.Told.{cut}
-use Rattle.token_server.specs.code.Turns.{kept}
-use Rattle.token_server.proofs.SpanLaws.{one_span}
-use Rattle.token_server.proofs.CutLaws.{IsLeft, left-start, left-bounds, left-least}
+use Rattle.token_server.specs.code.Edits.{cut, kept}
+use Rattle.token_server.proofs.GrantLaws.{one_span, IsLeft, left-start, left-bounds, left-least}
 use Rattle.token_server.proofs.TurnLaws.{kept-requests, kept-parts, left-next}
 use Rattle.token_server.proofs.server.cuts.cut_by.Goals as goal
 

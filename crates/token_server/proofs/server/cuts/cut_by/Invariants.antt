@@ -1,7 +1,7 @@
 use Rattle.std.proofs.Common.{take}
 use Rattle.token_server.specs.rule.Actives.{requests_of}
-use Rattle.token_server.specs.code.Turns.{kept}
-use Rattle.token_server.proofs.CutLaws.{IsLeft}
+use Rattle.token_server.specs.code.Edits.{kept}
+use Rattle.token_server.proofs.GrantLaws.{IsLeft}
 use Rattle.token_server.proofs.server.cuts.cut_by.Given as goal
 
 abbrev pub invariant-loop-other : goal.invariant-loop-other

@@ -5,8 +5,8 @@ use Rattle.intervals.specs.rule.Bytes.{Range}
 use Rattle.token_server.specs.declared.token_queue.active_request.ActiveRequest.{ActiveRequest}
 use Rattle.token_server.specs.declared.token_queue.token_request.TokenRequest.{TokenRequest}
 use Rattle.token_server.specs.rule.Actives.{requests_of}
-use Rattle.token_server.specs.code.Told.{cut}
-use Rattle.token_server.proofs.CutLaws.{AreCut, cut-start, cut-more}
+use Rattle.token_server.specs.code.Edits.{cut}
+use Rattle.token_server.proofs.GrantLaws.{AreCut, cut-start, cut-more}
 use Rattle.token_server.proofs.server.cuts.cut_by_all.Goals as goal
 
 pub loop-other-init : goal.loop-other-init

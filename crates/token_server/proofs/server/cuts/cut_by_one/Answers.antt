@@ -1,7 +1,7 @@
 use Rattle.std.specs.Prelude.{◌≤◌}
 use Rattle.std.proofs.Common.{sym, ap, ◌∙◌, arith}
 use Rattle.intervals.specs.rule.Bytes.{Range}
-use Rattle.token_server.proofs.CutLaws.{cut-clear}
+use Rattle.token_server.proofs.GrantLaws.{cut-clear}
 use Rattle.token_server.proofs.server.cuts.cut_by_one.Goals as goal
 
 pub returns-then-not-meets-clause-kept : goal.returns-then-not-meets-clause-kept

@@ -1,6 +1,6 @@
 use Rattle.std.proofs.Common.{ap, ◌∙◌}
 use Rattle.token_server.specs.declared.known_nodes.known_change.KnownChange.{KnownChange}
-use Rattle.token_server.specs.code.Obstacles.{frees}
+use Rattle.token_server.specs.code.Admissions.{frees}
 use Rattle.token_server.proofs.AwaitLaws.{apart-part}
 use Rattle.token_server.proofs.server.obstacles.takes_all.Goals as goal
 

@@ -1,6 +1,6 @@
 use Rattle.std.proofs.Common.{length, ◌-◌, ◌≡◌, ◌↔◌, ◌<◌, ◌≤◌, drop, is_some, true}
 use Rattle.token_server.specs.rule.Requests.{requests_in}
-use Rattle.token_server.specs.code.Places.{request_at}
+use Rattle.token_server.specs.code.Admissions.{request_at}
 use Rattle.token_server.proofs.token_queue.walk.same_requests.Given as goal
 
 abbrev pub invariant-loop-here : goal.invariant-loop-here

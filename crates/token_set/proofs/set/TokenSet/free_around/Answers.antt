@@ -1,7 +1,6 @@
 use Rattle.std.proofs.Common.{sym, arith}
 use Rattle.std.proofs.lemmas.Bool.{both_ways}
-use Rattle.token_set.proofs.AroundLaws.{largest_around-is, largest_around-free}
-use Rattle.token_set.proofs.TokenLaws.{largest-conflicts}
+use Rattle.token_set.proofs.TokenLaws.{largest_around-is, largest_around-free, largest-conflicts}
 use Rattle.token_set.proofs.set.TokenSet.free_around.Goals as goal
 
 pub returns-clause-largest : goal.returns-clause-largest

@@ -1,5 +1,5 @@
 use Rattle.std.proofs.Common.{sym, ◌∙◌}
-use Rattle.token_set.proofs.LevelLaws.{raised-free}
+use Rattle.token_set.proofs.TokenLaws.{raised-free}
 use Rattle.token_set.proofs.set.TokenSet.plan_shared.Goals as goal
 
 pub returns : goal.returns

@@ -1,5 +1,5 @@
 use Rattle.std.proofs.Common.{sym, ◌∙◌}
-use Rattle.token_set.proofs.LevelLaws.{lowered-free, lowered-all}
+use Rattle.token_set.proofs.TokenLaws.{lowered-free, lowered-all}
 use Rattle.token_set.proofs.set.TokenSet.plan_unexclusive.Goals as goal
 
 pub returns-then-covers : goal.returns-then-covers

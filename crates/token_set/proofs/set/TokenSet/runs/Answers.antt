@@ -1,6 +1,6 @@
 use Rattle.std.proofs.Common.{◌≡◌, ap, arith}
 use Rattle.intervals.specs.rule.Bytes.{Range}
-use Rattle.token_set.proofs.RunLaws.{listed_more}
+use Rattle.token_set.proofs.TokenLaws.{listed_more}
 use Rattle.token_set.proofs.set.TokenSet.runs.Goals as goal
 
 pub loop-next-preserved : goal.loop-next-preserved

@@ -1,7 +1,7 @@
 use Rattle.std.proofs.Common.{◌+◌, ◌-◌, ◌≤◌}
 use Rattle.intervals.specs.rule.Bytes.{greatest}
 use Rattle.token_set.specs.rule.Tokens.{token_of}
-use Rattle.token_set.proofs.RunLaws.{Listed}
+use Rattle.token_set.proofs.TokenLaws.{Listed}
 use Rattle.token_set.proofs.set.TokenSet.runs.Given as goal
 
 abbrev pub invariant-loop-next : goal.invariant-loop-next

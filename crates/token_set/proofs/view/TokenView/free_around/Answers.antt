@@ -3,12 +3,11 @@ use Rattle.std.proofs.Common.{sym, subst, arith}
 use Rattle.intervals.specs.rule.Bytes.{Range, IsLargest, NoneIn, put}
 use Rattle.intervals.specs.code.Runs.{IsLowestFree, IsHighestFree}
 use Rattle.intervals.proofs.Around.{largest_from}
-use Rattle.lock_table.proofs.LargestLaws.{IsLargest-iff}
+use Rattle.lock_table.proofs.BlockerLemmas.{IsLargest-iff}
 use Rattle.token_set.specs.declared.view.TokenView.{TokenView}
-use Rattle.token_set.specs.rule.Tokens.{level_conflicts}
-use Rattle.token_set.specs.rule.Tokens.{token_of}
+use Rattle.token_set.specs.rule.Tokens.{level_conflicts, token_of}
 use Rattle.token_set.specs.code.Views.{viewed, InWay}
-use Rattle.token_set.proofs.AroundLaws.{largest_around-is}
+use Rattle.token_set.proofs.TokenLaws.{largest_around-is}
 use Rattle.token_set.proofs.view.TokenView.free_around.Goals as goal
 
 pub free_around-requires-clause-free : goal.free_around-requires-clause-free

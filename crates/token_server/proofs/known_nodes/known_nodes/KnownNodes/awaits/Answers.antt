@@ -1,8 +1,8 @@
 use Rattle.std.specs.Prelude.{ℕ, ◌+◌, Bool}
 use Rattle.std.proofs.Common.{sym, ◌∙◌, arith}
-use Rattle.token_set.proofs.SearchLaws.{some_passes-from, none_passes-from}
+use Rattle.token_set.proofs.TokenLaws.{some_passes-from, none_passes-from}
 use Rattle.token_server.specs.rule.Rows.{is_awaited}
-use Rattle.token_server.specs.code.RowEdits.{rows_overlaid}
+use Rattle.token_server.specs.code.Rows.{rows_overlaid}
 use Rattle.token_server.proofs.known_nodes.known_nodes.KnownNodes.awaits.Goals as goal
 
 pub returns-then-is_awaited : goal.returns-then-is_awaited

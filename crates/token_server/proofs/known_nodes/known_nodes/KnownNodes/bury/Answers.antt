@@ -1,9 +1,8 @@
 use Rattle.std.specs.Prelude.{ℕ, ◌+◌, Option}
 use Rattle.std.proofs.Common.{refl, sym, subst, ◌∙◌, arith}
 use Rattle.token_server.specs.rule.Rows.{Row}
-use Rattle.token_server.specs.code.Marks.{NoneExclusive}
-use Rattle.token_server.proofs.KnownNodeLaws.{rows_of-set_same, deaths_of-set}
-use Rattle.token_server.proofs.EditLaws.{deaths_with-there}
+use Rattle.token_server.specs.code.Rows.{NoneExclusive}
+use Rattle.token_server.proofs.KnownNodeLaws.{rows_of-set_same, deaths_of-set, deaths_with-there}
 use Rattle.token_server.proofs.known_nodes.known_nodes.KnownNodes.bury.Goals as goal
 
 pub invariant_of-self : goal.invariant_of-self

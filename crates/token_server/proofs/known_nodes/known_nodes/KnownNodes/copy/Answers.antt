@@ -3,7 +3,7 @@ use Rattle.std.proofs.Common.{ap, sym, subst, ◌∙◌, take}
 use Rattle.std.proofs.lemmas.List.{take_more, take_all}
 use Rattle.token_server.specs.declared.known_nodes.known_node.KnownNode.{KnownNode}
 use Rattle.token_server.specs.rule.RowParts.{rows_of}
-use Rattle.token_server.specs.code.Marks.{NoneExclusive}
+use Rattle.token_server.specs.code.Rows.{NoneExclusive}
 use Rattle.token_server.proofs.known_nodes.known_nodes.KnownNodes.copy.Goals as goal
 
 pub loop-known_node-preserved : goal.loop-known_node-preserved

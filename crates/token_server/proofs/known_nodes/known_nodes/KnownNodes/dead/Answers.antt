@@ -1,5 +1,5 @@
 use Rattle.std.proofs.Common.{sym}
-use Rattle.token_server.proofs.EditLaws.{deaths_of-there, deaths_of-none}
+use Rattle.token_server.proofs.KnownNodeLaws.{deaths_of-there, deaths_of-none}
 use Rattle.token_server.proofs.known_nodes.known_nodes.KnownNodes.dead.Goals as goal
 
 pub returns-in-Some : goal.returns-in-Some

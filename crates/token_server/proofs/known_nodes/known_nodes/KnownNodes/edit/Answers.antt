@@ -4,8 +4,8 @@ use Rattle.model.specs.rule.Limits.{IsNumber}
 use Rattle.token_server.specs.declared.known_nodes.row_edit.RowEdit.{RowEdit}
 use Rattle.token_server.specs.declared.known_nodes.known_change.Changed.{Changed}
 use Rattle.token_server.specs.rule.RowParts.{rows_of, deaths_of}
-use Rattle.token_server.specs.code.Changes.{row_after, dead_after, rows_after, deaths_after}
-use Rattle.token_server.proofs.EditLaws.{Changes, rows_of-edit, deaths_of-edit, rows_of-there, deaths_of-there, stays-at}
+use Rattle.token_server.specs.code.Rows.{row_after, dead_after, rows_after, deaths_after}
+use Rattle.token_server.proofs.KnownNodeLaws.{Changes, rows_of-edit, deaths_of-edit, rows_of-there, deaths_of-there, stays-at}
 use Rattle.token_server.proofs.known_nodes.known_nodes.KnownNodes.edit.Goals as goal
 
 pub returns-then-stays-clause-rows : goal.returns-then-stays-clause-rows

@@ -4,9 +4,8 @@ use Rattle.std.proofs.lemmas.Bool.{not-true}
 use Rattle.token_server.specs.declared.known_nodes.known_node.KnownNode.{KnownNode}
 use Rattle.token_server.specs.declared.known_nodes.row_edit.RowEdit.{RowEdit}
 use Rattle.token_server.specs.rule.RowParts.{rows_of}
-use Rattle.token_server.specs.code.RowEdits.{rows_overlaid}
-use Rattle.token_server.specs.code.Marks.{NoneExclusive}
-use Rattle.token_server.proofs.MarkLaws.{exclusive-edited}
+use Rattle.token_server.specs.code.Rows.{rows_overlaid, NoneExclusive}
+use Rattle.token_server.proofs.KnownNodeLaws.{exclusive-edited}
 use Rattle.token_server.proofs.known_nodes.known_nodes.KnownNodes.excludes_none.Goals as goal
 
 pub returns-in-Some : goal.returns-in-Some

@@ -1,8 +1,6 @@
 use Rattle.std.specs.Prelude.{◌+◌}
 use Rattle.std.proofs.Common.{refl, arith}
-use Rattle.token_server.proofs.KnownNodeLaws.{deaths_of-set_same}
-use Rattle.token_server.proofs.EditLaws.{given-set, given-past}
-use Rattle.token_server.proofs.MarkLaws.{exclusive-noted}
+use Rattle.token_server.proofs.KnownNodeLaws.{deaths_of-set_same, given-set, given-past, exclusive-noted}
 use Rattle.token_server.proofs.known_nodes.known_nodes.KnownNodes.give.Goals as goal
 
 pub returns-then-place-len-clause-rows : goal.returns-then-place-len-clause-rows

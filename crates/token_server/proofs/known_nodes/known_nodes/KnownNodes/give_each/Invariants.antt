@@ -1,6 +1,6 @@
 use Rattle.std.specs.Prelude.{◌≡◌, ℕ, length}
 use Rattle.token_server.specs.rule.RowParts.{deaths_of}
-use Rattle.token_server.specs.code.RowEdits.{given_rows}
+use Rattle.token_server.specs.code.Rows.{given_rows}
 use Rattle.token_server.proofs.known_nodes.known_nodes.KnownNodes.give_each.Given as goal
 
 -- making the new rows that are left leads to what making all leads to

@@ -1,5 +1,5 @@
 use Rattle.std.proofs.Common.{sym, ap, ◌∙◌}
-use Rattle.token_server.proofs.GivenLaws.{given_rows-last, given_rows-passed}
+use Rattle.token_server.proofs.KnownNodeLaws.{given_rows-last, given_rows-passed}
 use Rattle.token_server.proofs.known_nodes.known_nodes.KnownNodes.give_last.Goals as goal
 
 pub returns-then-not-has_place-clause-rows : goal.returns-then-not-has_place-clause-rows

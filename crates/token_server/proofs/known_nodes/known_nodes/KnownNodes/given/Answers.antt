@@ -5,8 +5,8 @@ use Rattle.token_server.specs.declared.known_nodes.row_edit.RowAfter.{RowAfter}
 use Rattle.token_server.specs.declared.known_nodes.row_edit.RowEdit.{RowEdit}
 use Rattle.token_server.specs.rule.Rows.{Row}
 use Rattle.token_server.specs.rule.RowParts.{known_node_at}
-use Rattle.token_server.specs.code.RowEdits.{row_kept, row_promised, given_to_known_node, rows_overlaid}
-use Rattle.token_server.proofs.EditLaws.{overlaid-here, overlaid-elsewhere, overlaid-none, rows_of-there}
+use Rattle.token_server.specs.code.Rows.{row_kept, row_promised, given_to_known_node, rows_overlaid}
+use Rattle.token_server.proofs.KnownNodeLaws.{overlaid-here, overlaid-elsewhere, overlaid-none, rows_of-there}
 use Rattle.token_server.proofs.known_nodes.known_nodes.KnownNodes.given.Goals.{in-Some-edit+in_ok-row-in-Some-edit, in_default-edit+in_ok-row-in_default-edit, in_default-edit-via-in-Some-edit+else-edit-place, in_default-edit-via-in_default-edit}
 use Rattle.token_server.proofs.known_nodes.known_nodes.KnownNodes.given.Goals as goal
 

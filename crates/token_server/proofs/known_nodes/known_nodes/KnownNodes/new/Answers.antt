@@ -3,8 +3,7 @@ use Rattle.std.proofs.Common.{◌≡◌, ◌+◌, length, refl, ap, sym, subst, 
 use Rattle.std.proofs.lemmas.List.{length_push}
 use Rattle.std.proofs.lemmas.List.Elements.{All-push}
 use Rattle.token_server.specs.declared.known_nodes.known_node.KnownNode.{KnownNode}
-use Rattle.token_server.proofs.KnownNodeLaws.{rows_of-new, deaths_of-new}
-use Rattle.token_server.proofs.MarkLaws.{exclusive-new}
+use Rattle.token_server.proofs.KnownNodeLaws.{rows_of-new, deaths_of-new, exclusive-new}
 use Rattle.token_server.proofs.known_nodes.known_nodes.KnownNodes.new.Goals as goal
 
 pub loop-node-preserved : goal.loop-node-preserved

@@ -6,7 +6,7 @@ use Rattle.messages.specs.declared.message.Message.{Message}
 use Rattle.token_server.specs.declared.known_nodes.known_node.KnownNode.{KnownNode}
 use Rattle.token_server.specs.rule.RowParts.{rows_of}
 use Rattle.token_server.specs.rule.Rows.{outstanding_to}
-use Rattle.token_server.proofs.OutstandingLaws.{outstanding-next}
+use Rattle.token_server.proofs.KnownNodeLaws.{outstanding-next}
 use Rattle.token_server.proofs.known_nodes.known_nodes.KnownNodes.outstanding.Goals as goal
 use Rattle.token_server.proofs.known_nodes.known_nodes.KnownNodes.outstanding.Goals.{in-Some+in_ok-push, in_default}
 

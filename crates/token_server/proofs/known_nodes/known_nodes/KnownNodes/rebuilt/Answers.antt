@@ -1,7 +1,7 @@
 use Rattle.std.specs.Prelude.{ℕ}
 use Rattle.std.proofs.Common.{subst, ◌∙◌}
-use Rattle.messages.specs.rule.Epochs.{before_epoch}
-use Rattle.token_server.specs.code.Rebuilds.{AreRebuilt}
+use Rattle.messages.specs.rule.Shapes.{before_epoch}
+use Rattle.token_server.specs.code.Rows.{AreRebuilt}
 use Rattle.token_server.proofs.RebuildLaws.{rebuilt-rows, rebuilt-deaths, rebuilt-free}
 use Rattle.token_server.proofs.known_nodes.known_nodes.KnownNodes.rebuilt.Goals.{In_ok-rebuilt}
 use Rattle.token_server.proofs.known_nodes.known_nodes.KnownNodes.rebuilt.Goals as goal

@@ -1,7 +1,7 @@
 use Rattle.std.specs.Option.{option_copied}
 use Rattle.std.proofs.Common.{sym, ap, ◌∙◌}
 use Rattle.token_server.specs.rule.RowParts.{row_seen}
-use Rattle.token_server.proofs.EditLaws.{rows_of-there, rows_of-none}
+use Rattle.token_server.proofs.KnownNodeLaws.{rows_of-there, rows_of-none}
 use Rattle.token_server.proofs.known_nodes.known_nodes.KnownNodes.row.Goals as goal
 
 pub returns-in_err-get : goal.returns-in_err-get

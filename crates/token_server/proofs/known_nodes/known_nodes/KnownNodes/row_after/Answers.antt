@@ -1,8 +1,8 @@
 use Rattle.std.proofs.Common.{sym, ap, ◌∙◌, arith}
 use Rattle.std.specs.Prelude.{Option}
 use Rattle.token_server.specs.declared.known_nodes.row_edit.RowEdit.{RowEdit}
-use Rattle.token_server.specs.code.RowEdits.{rows_overlaid}
-use Rattle.token_server.proofs.EditLaws.{overlaid-here, overlaid-elsewhere, overlaid-none, seen-matches, rows_of-there}
+use Rattle.token_server.specs.code.Rows.{rows_overlaid}
+use Rattle.token_server.proofs.KnownNodeLaws.{overlaid-here, overlaid-elsewhere, overlaid-none, seen-matches, rows_of-there}
 use Rattle.token_server.proofs.known_nodes.known_nodes.KnownNodes.row_after.Goals.{in_default-via-in-Some+else-edit-from, in_default-via-in_default}
 use Rattle.token_server.proofs.known_nodes.known_nodes.KnownNodes.row_after.Goals as goal
 

@@ -2,7 +2,7 @@ use Rattle.std.specs.Prelude.{◌≡◌, ◌<◌, ℕ, List, Option, Some, None,
 use Rattle.std.proofs.Common.{ap, subst, sym, ◌∙◌, get_or, arith}
 use Rattle.std.proofs.lemmas.List.{get_or_default}
 use Rattle.token_server.specs.declared.token_queue.token_request.TokenRequest.{TokenRequest}
-use Rattle.token_server.specs.code.Places.{request_at}
+use Rattle.token_server.specs.code.Admissions.{request_at}
 use Rattle.token_server.proofs.LineLaws.{IsForgotten, IsForgotten-start, IsForgotten-taken, IsForgotten-stays, IsForgotten-none}
 use Rattle.token_server.proofs.token_queue.line.Line.forget.Goals.{in-Some-as_slice+then-is_up_to, in-Some-as_slice+else-is_up_to, in_default-as_slice}
 use Rattle.token_server.proofs.token_queue.line.Line.forget.Goals as goal

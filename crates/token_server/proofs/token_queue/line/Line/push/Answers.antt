@@ -2,8 +2,8 @@ use Rattle.std.specs.Prelude.{◌∷◌, ◌++◌, [], List, Option, Some}
 use Rattle.std.proofs.Common.{ap, subst, sym, ◌∙◌}
 use Rattle.token_server.specs.declared.token_queue.token_request.TokenRequest.{TokenRequest}
 use Rattle.token_server.specs.rule.Requests.{LineParts, requests_in}
-use Rattle.token_server.specs.code.Places.{IsFront}
-use Rattle.token_server.proofs.SlotLaws.{requests_in-append}
+use Rattle.token_server.specs.code.Admissions.{IsFront}
+use Rattle.token_server.proofs.PlaceLaws.{requests_in-append}
 use Rattle.token_server.proofs.LineLaws.{IsFront-push}
 use Rattle.token_server.proofs.token_queue.line.Line.push.Goals as goal
 

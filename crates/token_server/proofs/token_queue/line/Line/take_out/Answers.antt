@@ -2,8 +2,8 @@ use Rattle.std.specs.Prelude.{◌≡◌, List, Option, map, filter, not, drop}
 use Rattle.std.proofs.Common.{ap, subst, sym, ◌∙◌}
 use Rattle.token_server.specs.declared.token_queue.token_request.TokenRequest.{TokenRequest}
 use Rattle.token_server.specs.rule.Requests.{LineParts, is_of_call, requests_in}
-use Rattle.token_server.specs.code.Places.{IsFront, unless}
-use Rattle.token_server.proofs.SlotLaws.{requests_in-unless}
+use Rattle.token_server.specs.code.Admissions.{IsFront, unless}
+use Rattle.token_server.proofs.PlaceLaws.{requests_in-unless}
 use Rattle.token_server.proofs.LineLaws.{rest-unless, IsFront-from}
 use Rattle.token_server.proofs.token_queue.line.Line.take_out.Goals as goal
 

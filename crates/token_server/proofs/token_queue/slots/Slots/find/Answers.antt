@@ -4,9 +4,8 @@ use Rattle.std.proofs.lemmas.List.{get_or_read}
 use Rattle.indexmap.specs.IndexMap.{get}
 use Rattle.messages.specs.rule.Messages.{same_call}
 use Rattle.token_server.specs.rule.Requests.{is_of_call, requests_in}
-use Rattle.token_server.specs.code.Places.{SlotParts}
-use Rattle.token_server.proofs.SlotLaws.{find-none}
-use Rattle.token_server.proofs.PlaceLaws.{get-same_call, found-at, within, HasNone-placed}
+use Rattle.token_server.specs.code.Admissions.{SlotParts}
+use Rattle.token_server.proofs.PlaceLaws.{find-none, get-same_call, found-at, within, HasNone-placed}
 use Rattle.token_server.proofs.token_queue.slots.Slots.find.Goals as goal
 
 pub returns-in-None : goal.returns-in-None

@@ -1,8 +1,7 @@
 use Rattle.std.proofs.Common.{subst}
 use Rattle.token_server.specs.rule.Requests.{requests_in, AreOfDistinctCalls}
-use Rattle.token_server.specs.code.Places.{SlotParts}
-use Rattle.token_server.proofs.SlotLaws.{distinct}
-use Rattle.token_server.proofs.PlaceLaws.{AreApart-placed}
+use Rattle.token_server.specs.code.Admissions.{SlotParts}
+use Rattle.token_server.proofs.PlaceLaws.{distinct, AreApart-placed}
 use Rattle.token_server.proofs.token_queue.slots.Slots.len.Goals as goal
 
 pub returns-clause-distinct : goal.returns-clause-distinct

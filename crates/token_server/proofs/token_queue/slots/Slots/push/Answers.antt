@@ -3,7 +3,7 @@ use Rattle.std.proofs.Common.{ap, ◌∙◌, arith}
 use Rattle.indexmap.specs.IndexMap.{get, index_map_len}
 use Rattle.messages.specs.rule.Messages.{same_call}
 use Rattle.token_server.specs.rule.Requests.{is_of_call, requests_in}
-use Rattle.token_server.specs.code.Places.{SlotParts}
+use Rattle.token_server.specs.code.Admissions.{SlotParts}
 use Rattle.token_server.proofs.PlaceLaws.{get-same_call, updates-same_call, absent, ArePlaced-push}
 use Rattle.token_server.proofs.token_queue.slots.Slots.push.Goals as goal
 

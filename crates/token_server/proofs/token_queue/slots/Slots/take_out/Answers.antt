@@ -3,9 +3,8 @@ use Rattle.std.proofs.Common.{ap, sym, ◌∙◌, arith, length-set}
 use Rattle.indexmap.specs.IndexMap.{get, index_map_len}
 use Rattle.messages.specs.rule.Messages.{same_call}
 use Rattle.token_server.specs.rule.Requests.{is_of_call}
-use Rattle.token_server.specs.code.Places.{SlotParts, unless}
-use Rattle.token_server.proofs.SlotLaws.{untouched, cleared}
-use Rattle.token_server.proofs.PlaceLaws.{get-same_call, updates-same_call, AreApart-placed, HasNone-placed, within, ArePlaced-clear}
+use Rattle.token_server.specs.code.Admissions.{SlotParts, unless}
+use Rattle.token_server.proofs.PlaceLaws.{untouched, cleared, get-same_call, updates-same_call, AreApart-placed, HasNone-placed, within, ArePlaced-clear}
 use Rattle.token_server.proofs.token_queue.slots.Slots.take_out.Goals as goal
 
 pub returns-in_default-clause-slots : goal.returns-in_default-clause-slots

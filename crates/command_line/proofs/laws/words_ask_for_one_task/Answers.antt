@@ -1,5 +1,0 @@
-use Rattle.command_line.proofs.CommandLine.{asks_one}
-use Rattle.command_line.proofs.laws.words_ask_for_one_task.Goals as goal
-
-pub returns : goal.returns
-returns c = asks_one

@@ -1,3 +1,0 @@
-mod Puts
-mod Walks
-mod Words

@@ -1,2 +1,0 @@
-pub mod ByProcess
-pub mod Indexes

@@ -1,6 +1,0 @@
--- The outcome of the files before this one is true.
-use Rattle.judgements.proofs.Files.{SoFar}
-use Rattle.judgements.proofs.judged.files_judged.Given as goal
-
-abbrev pub invariant-loop-file : goal.invariant-loop-file
-invariant-loop-file l = SoFar l.history l.outcome l.file

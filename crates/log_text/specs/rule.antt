@@ -1,4 +1,0 @@
-pub mod Blocks
-pub mod Torn
-pub mod Readings
-pub mod Lists

@@ -1,2 +1,0 @@
-pub mod Faulting
-pub mod Having

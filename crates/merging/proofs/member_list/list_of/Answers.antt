@@ -1,7 +1,0 @@
-use Rattle.log_text.specs.rule.Lists.{IsList}
-use Rattle.merging.proofs.Having.{has_text}
-use Rattle.merging.proofs.member_list.list_of.Goals as goal
-
-pub returns-in-Ok-clause-list : goal.returns-in-Ok-clause-list
-returns-in-Ok-clause-list g c =
-    has_text (g.S.Store.holds c.args.store.now c.args.path.now) c.in_ok-text.text c.as_str.result.now (λ text. IsList text c.in-Ok.list.nodes c.in-Ok.list.files c.in-Ok.list.changes.items) c.as_str.ensures.value c.in_ok-text.ensures.text c.in-Ok.ensures

@@ -1,6 +1,0 @@
-use Rattle.cluster_core.specs.rule.Parts.{world_state}
-use Rattle.player.specs.code.Due.{Adds, IsRetryAt, OfUpTo}
-use Rattle.player.proofs.due.push_retries.Given as goal
-
-abbrev pub invariant-loop-index : goal.invariant-loop-index
-invariant-loop-index l = Adds (OfUpTo (IsRetryAt (world_state l.world)) l.index) l.initial.events.items l.events.items

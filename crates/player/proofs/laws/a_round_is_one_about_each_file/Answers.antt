@@ -1,5 +1,0 @@
-use Rattle.player.proofs.FileRounds.{round_about}
-use Rattle.player.proofs.laws.a_round_is_one_about_each_file.Goals as goal
-
-pub returns : goal.returns
-returns c = round_about

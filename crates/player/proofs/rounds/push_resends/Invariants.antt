@@ -1,0 +1,6 @@
+use Rattle.cluster_core.specs.rule.Parts.{world_state}
+use Rattle.player.specs.code.Rounds.{Adds, IsResendAt, OfUpTo}
+use Rattle.player.proofs.rounds.push_resends.Given as goal
+
+abbrev pub invariant-loop-index : goal.invariant-loop-index
+invariant-loop-index l = Adds (OfUpTo (IsResendAt (world_state l.world)) l.index) l.initial.events.items l.events.items

@@ -1,4 +1,0 @@
-pub mod Registers
-pub mod Fronts
-pub mod Readings
-pub mod Talks

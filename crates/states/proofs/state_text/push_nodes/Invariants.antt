@@ -1,6 +1,0 @@
-use Rattle.std.proofs.Common.{◌≡◌, ◌++◌, flat_map, string_bytes, take}
-use Rattle.states.specs.rule.Texts.{node_lines}
-use Rattle.states.proofs.state_text.push_nodes.Given as goal
-
-abbrev pub invariant-loop-node : goal.invariant-loop-node
-invariant-loop-node l = string_bytes l.out ≡ string_bytes l.fn.out ++ flat_map node_lines (take l.node-index l.nodes)

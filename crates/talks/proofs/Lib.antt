@@ -1,3 +1,0 @@
-pub mod Goings
-pub mod LineParts
-pub mod Tellings

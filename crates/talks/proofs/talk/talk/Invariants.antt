@@ -1,7 +1,0 @@
-use Rattle.talks.specs.Talks.{Talks}
-use Rattle.talks.proofs.talk.talk.Given as goal
-
-abbrev pub invariant-loop : goal.invariant-loop
-invariant-loop g l =
-    Talks g.A.Answerer.says l.fn.who l.who (g.R.Read.remaining l.fn.reader) (g.R.Read.remaining l.reader)
-    (g.L.Write.contents l.fn.log) (g.L.Write.contents l.log) (g.W.Write.contents l.fn.out) (g.W.Write.contents l.out)
