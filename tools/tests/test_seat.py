@@ -5,6 +5,7 @@ from __future__ import annotations
 import os
 import shutil
 import subprocess
+import tempfile
 import unittest
 
 from nuvatsimo import program
@@ -48,7 +49,8 @@ class Seats(unittest.TestCase):
     def test_the_module_in_go(self) -> None:
         folder = os.path.join(os.path.dirname(os.path.abspath(__file__)), "../../examples/go")
         words = ["go", "test", "-count=1", "./..."]
-        ran = subprocess.run(words, cwd=folder, capture_output=True, check=False, text=True)
+        rest = {"HOME": tempfile.gettempdir(), **os.environ}
+        ran = subprocess.run(words, cwd=folder, env=rest, capture_output=True, check=False, text=True)
         self.assertEqual(ran.returncode, 0, ran.stdout + ran.stderr)
 
 
