@@ -50,7 +50,9 @@ class Seats(unittest.TestCase):
         folder = os.path.join(os.path.dirname(os.path.abspath(__file__)), "../../examples/go")
         words = ["go", "test", "-count=1", "./..."]
         rest = {"HOME": tempfile.gettempdir(), **os.environ}
-        ran = subprocess.run(words, cwd=folder, env=rest, capture_output=True, check=False, text=True)
+        ran = subprocess.run(
+            words, cwd=folder, env=rest, capture_output=True, check=False, text=True
+        )
         self.assertEqual(ran.returncode, 0, ran.stdout + ran.stderr)
 
 
